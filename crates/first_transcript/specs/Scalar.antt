@@ -1,4 +1,4 @@
--- The scalar of the first path: an element of the field of order 15 * 2 ^ 27 + 1, in four bytes.
+-- The scalar of the first example: an element of the field of order 15 * 2 ^ 27 + 1, in four bytes.
 use Rattle.std.specs.Prelude.{ℕ, List, Option, Result}
 use Rattle.{p3_challenger_core.specs.{Observation.observed_all, Sampling.unrefused_draw}, p3_codecs.specs.BytesToField.drawn_bytes}
 use Rattle.p3_small_primes.specs.BabyBearResidues.{BabyBear, residues}
@@ -12,27 +12,27 @@ order = 2013265921
 abbrev pub number : BabyBear → ℕ
 number x = residues.number x
 
--- how many bits the order takes
+-- the bit length of the order
 abbrev pub bits : ℕ
 bits = 31
 
--- how many bytes a scalar takes in the proof
+-- the number of bytes of a scalar in the proof
 abbrev pub width : ℕ
 width = 4
 
--- its one encoding
+-- the encoding of a scalar
 abbrev pub wire : BabyBear → List ℕ
 wire x = scalar.wire residues width x
 
--- what is read at the head of bytes
+-- the reading at the head of bytes
 abbrev pub read : List ℕ → Result (BabyBear × List ℕ) (List ℕ)
 read bytes = scalar.read residues width bytes
 
--- the state after a scalar, where a byte is observed so
+-- the state after a scalar is observed, given the observation of a byte
 abbrev pub observed : {S : Type 0} → (S → ℕ → S) → S → BabyBear → S
 observed byte_observed s x = observed_all byte_observed s (wire x)
 
--- the scalar that is drawn, where a byte is drawn so, and the state after it
+-- the scalar that is drawn and the state after it, given the draw of a byte
 abbrev pub sampled : {S : Type 0} → (S → Option ℕ) → (S → S) → S → Option BabyBear
 sampled byte after_byte s = (drawn_bytes residues bits (unrefused_draw byte after_byte)).sampled s
 

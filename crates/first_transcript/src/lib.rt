@@ -1,6 +1,6 @@
-//! A transcript in two functions, without a driver: a scalar is sent, and one is drawn.
+//! A transcript in two functions, without a driver: one scalar is sent, and one is drawn.
 //!
-//! It stands on no more than it calls: a hash challenger, and the encoding of scalars.
+//! The crate depends only on what it calls: a hash challenger, and the encoding of scalars.
 #![tactic(auto)]
 
 ghost use Rattle.std.specs.Prelude.{◌≡◌, Some, IfOk, IfErr, MatchResult};
@@ -18,7 +18,7 @@ use std::alloc::Global;
 
 type ScalarCodec = BytesToFieldCodec<BabyBear>;
 
-/// What a prover has once it sent a scalar and drew one.
+/// What a prover has after it sent a scalar and drew one.
 #[derive(Debug, Drop)]
 pub struct FirstRun<H, const OUT_LEN: usize> {
     /// The proof: the encoding of the scalar, 4 bytes.
@@ -29,7 +29,7 @@ pub struct FirstRun<H, const OUT_LEN: usize> {
     pub challenger: HashChallenger<u8, H, OUT_LEN>,
 }
 
-/// What a verifier has once it read a scalar and drew one.
+/// What a verifier has after it read a scalar and drew one.
 #[derive(Debug, Drop)]
 pub struct FirstRead<H, const OUT_LEN: usize> {
     /// The scalar that the proof encodes.
@@ -42,7 +42,7 @@ pub struct FirstRead<H, const OUT_LEN: usize> {
 
 /// Sends a scalar: observes it, encodes it in the proof, and draws a challenge.
 ///
-/// The one error is [`TranscriptError::OutOfMemory`]. The challenger is gone then.
+/// The one error is [`TranscriptError::OutOfMemory`], after which the challenger is dropped.
 pub fn prove<H: CryptographicHasher<u8, [u8; OUT_LEN]>, const OUT_LEN: usize>(
     alloc: Global,
     mut challenger: HashChallenger<u8, H, OUT_LEN>,
@@ -64,10 +64,10 @@ pub fn prove<H: CryptographicHasher<u8, [u8; OUT_LEN]>, const OUT_LEN: usize>(
     })
 }
 
-/// Reads a scalar that makes up the whole proof `narg`, observes it, and draws a challenge.
+/// Reads the scalar that the whole proof `narg` encodes, observes it, and draws a challenge.
 ///
 /// The errors are [`TranscriptError::BadProofShape`], exactly where `narg` is not the encoding of a
-/// scalar, and [`TranscriptError::OutOfMemory`]. The challenger is gone then.
+/// scalar, and [`TranscriptError::OutOfMemory`]. After an error the challenger is dropped.
 pub fn verify<H: CryptographicHasher<u8, [u8; OUT_LEN]>, const OUT_LEN: usize>(
     mut challenger: HashChallenger<u8, H, OUT_LEN>,
     narg: &[u8],

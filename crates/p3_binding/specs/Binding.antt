@@ -1,4 +1,5 @@
--- What two runs that feed the same symbols have in common; and of scripts, that symbols bind and hints do not influence.
+-- What two runs that feed the same symbols have in common, with the laws for scripts: symbols bind, and hints do not
+-- influence.
 use Rattle.std.specs.Prelude.{◌≡◌, ◌↔◌, ℕ, ◌⊎◌, List, [], ◌∷◌, length}
 use Rattle.p3_challenger_core.specs.Reading.{AreBytes}
 use Rattle.p3_fs_core.specs.Steps.{Step, alternate_text}
@@ -21,14 +22,14 @@ pub record Collide (digest_of : List ℕ → List ℕ) (a b : List ℕ) : Type 0
   pub differ : a ≡ b → ⊥
   pub share : digest_of a ≡ digest_of b
 
--- two patterns have one alternate rendering exactly if they are the same but for the names of types
+-- two patterns have one alternate rendering exactly if they are the same except for the names of types
 abbrev pub RenderingsTellPatterns : Type 0
 RenderingsTellPatterns = (x y : PatternSteps) →
     (alternate_rendering (steps_of x) ≡ alternate_rendering (steps_of y) ↔ SameButTypeNames (steps_of x) (steps_of y))
 
 -- ---- what is absorbed
 
--- A program can hold what is absorbed: bytes are bytes, and a value of the opaque type is one of its own.
+-- A program can hold what is absorbed: each byte is below 256, and an opaque value is one of the opaque type.
 abbrev pub IsHeld : {F O : Type 0} → (O → Type 0) → Absorbed F O → Type 0
 IsHeld IsOwn (Bytes bytes) = AreBytes bytes
 IsHeld IsOwn (Own x) = IsOwn x
@@ -47,13 +48,13 @@ pub record SameProtocol {X F EF S U D : Type 0} (x y : Run X F EF S U D) : Type 
   pub chunks : (separator_of x.separator).chunks ≡ (separator_of y.separator).chunks
 
 module _ {X S Symbol I F EF O Ac U D : Type 0} (rules : Rules S Symbol I F EF O Ac) (play : X → Play S Symbol F EF O) where
-  -- the patterns are the same but for the names of types, and so is what each step absorbed
+  -- the patterns are the same except for the names of types, and so is what each step absorbed
   pub record SameSteps (x y : Run X F EF S U D) : Type 0 where
     pub patterns : SameButTypeNames (pattern x) (pattern y)
     pub values : absorbed rules play x ≡ absorbed rules play y
 
-  -- Two runs are finished and feed the same symbols, and what they absorb a program can hold. Either both are whole,
-  -- or they are fronts of equally many steps.
+  -- Two runs are finished and feed the same symbols, and a program can hold what they absorb. Either both are whole, or
+  -- both are prefixes of equally many steps.
   pub record FeedTheSame (x y : Run X F EF S U D) : Type 0 where
     pub finished : IsFinished rules play x × IsFinished rules play y
     pub held : AreHeld rules.IsOwn (absorbed rules play x) × AreHeld rules.IsOwn (absorbed rules play y)
@@ -65,7 +66,7 @@ module _ {X S Symbol I F EF O Ac U D : Type 0} (rules : Rules S Symbol I F EF O 
     pub protocol : SameProtocol x y
     pub steps : SameSteps x y ⊎ Collide rules.digest_of (alternate_rendering (pattern x)) (alternate_rendering (pattern y))
 
--- equal symbols bind: between any two runs, under any separators, from any challengers
+-- equal symbols bind any two runs, under any separators and from any challengers
 abbrev pub SymbolsBind : {X S Symbol I F EF O Ac : Type 0} (U D : Type 0) → Rules S Symbol I F EF O Ac →
     (X → Play S Symbol F EF O) → Type 0
 SymbolsBind {X} {S} {Symbol} {I} {F} {EF} U D rules play =
@@ -74,11 +75,11 @@ SymbolsBind {X} {S} {Symbol} {I} {F} {EF} U D rules play =
 -- ---- scripts
 
 module _ {S Symbol I F EF O Ac : Type 0} (Su U C K D G It St Sy : Type 0) (rules : Rules S Symbol I F EF O Ac) where
-  -- equal symbols bind, of scripts
+  -- equal symbols bind the runs of scripts
   abbrev pub ScriptSymbolsBind : Type 0
   ScriptSymbolsBind = SymbolsBind U D rules (λ (x : script.Step Su F EF U O C K Ac D G It St Sy). play_of rules x)
 
-  -- hints do not influence, in scripts
+  -- hints do not influence the runs of scripts
   abbrev pub ScriptHintsDoNotInfluence : Type 0
   ScriptHintsDoNotInfluence =
       HintsDoNotInfluence U D rules (λ (x : script.Step Su F EF U O C K Ac D G It St Sy). play_of rules x)

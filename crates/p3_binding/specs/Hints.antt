@@ -1,4 +1,4 @@
--- What the challenger takes no part in.
+-- Values that the challenger does not observe.
 use Rattle.std.specs.Prelude.{◌≡◌, zero, List, [], ◌∷◌}
 use Rattle.p3_fs_core.specs.{Steps.Step, declared.step.Kind.Kind, declared.step.Kind.TheVariants.{Hint, Pow}}
 use Rattle.p3_fs_core.specs.declared.step.{Length.Length, Length.TheVariants.Fixed}
@@ -7,20 +7,20 @@ use Rattle.p3_runs.specs.Plays.{Play, Place, Nowhere, Sent, Found, Carried}
 
 -- ---- values of one step
 
--- witnesses of 0 bits may be any, and hints; else the values are the same
+-- hints and witnesses of 0 bits may be any; other values are the same
 abbrev pub SameOfKind : {V : Type 0} → Kind → Length → V → V → Type 0
 SameOfKind Hint length v w = Unit {0}
 SameOfKind Pow (Fixed zero) v w = Unit {0}
 SameOfKind _ length v w = v ≡ w
 
--- the values of a step are the same; those of a hint, and witnesses of 0 bits, may be any
+-- the values of a step are the same, except that hints and witnesses of 0 bits may be any
 abbrev pub SameButHint : {V : Type 0} → Step → V → V → Type 0
 SameButHint step v w = SameOfKind step.kind step.length v w
 
 -- ---- values of steps
 
--- Of two lists that have a value for each step which the proof carries one of: the first ones are the same in this sense,
--- and the others in that.
+-- Two lists have a value for each step whose value the proof carries. The first values are related in the one way, and
+-- the others in the other.
 abbrev pub FirstAre : {V : Type 0} → Place → (V → V → Type 0) → (List V → List V → Type 0) → List V → List V → Type 0
 FirstAre Nowhere Same Others vs ws = Others vs ws
 FirstAre Carried Same Others vs ws = Others vs ws
@@ -29,14 +29,14 @@ FirstAre Found Same Others (v ∷ vs) (w ∷ ws) = Same v w × Others vs ws
 FirstAre _ Same Others _ _ = ⊥
 
 module _ {X S Symbol F EF O : Type 0} (play : X → Play S Symbol F EF O) where
-  -- the values at the steps are the same but for hints and witnesses of 0 bits
+  -- the values at the steps are the same except for hints and witnesses of 0 bits
   abbrev pub SameButHints : List X → List (Value F EF) → List (Value F EF) → Type 0
   SameButHints [] [] [] = Unit {0}
   SameButHints (x ∷ steps) (v ∷ values) (w ∷ others) =
       SameButHint (play x).interaction v w × SameButHints steps values others
   SameButHints _ _ _ = ⊥
 
-  -- the same of the values that the proof carries, which a verifier receives
+  -- the values that a verifier receives are the same except for hints and witnesses of 0 bits
   abbrev pub ReceivedButHints : List X → List (Value F EF) → List (Value F EF) → Type 0
   ReceivedButHints [] received again = (received ≡ []) × (again ≡ [])
   ReceivedButHints (x ∷ steps) received again =
@@ -50,8 +50,8 @@ module _ {X S Symbol I F EF O Ac U D : Type 0} (rules : Rules S Symbol I F EF O 
     pub draws : challenges rules play x ≡ challenges rules play y
     pub ends : last rules play x ≡ last rules play y
 
--- hints do not influence: finished runs of one script, separator and challenger, whose values are the same but for hints
--- and witnesses of 0 bits, have the same challenges and final challengers
+-- Hints do not influence challenges. Finished runs of one script, separator and challenger have the same challenges
+-- and final challengers, if their values are the same except for hints and witnesses of 0 bits.
 abbrev pub HintsDoNotInfluence : {X S Symbol I F EF O Ac : Type 0} (U D : Type 0) → Rules S Symbol I F EF O Ac →
     (X → Play S Symbol F EF O) → Type 0
 HintsDoNotInfluence {X} {S} {Symbol} {I} {F} {EF} U D rules play = (x : Run X F EF S U D) (others : List (Value F EF)) →

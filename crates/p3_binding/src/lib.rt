@@ -1,4 +1,4 @@
-//! What the symbols that a run of a script feeds the challenger say of the run.
+//! The law on how the symbols that a script's run feeds to the challenger bind the run.
 #![tactic(auto)]
 
 mod symbols_bind;

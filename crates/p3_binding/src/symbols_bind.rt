@@ -10,25 +10,25 @@ use p3_driver_core::counts_are_told;
 use p3_patterns::equal_renderings_are_equal_patterns;
 use p3_script::{Meaning, Suite};
 
-/// What the symbols bind that runs of scripts feed the challenger. It is said of the runs alone, and no driver is a part
-/// of it.
+/// Equal symbols bind: the symbols that a run feeds to the challenger determine the run. The law speaks of runs of
+/// scripts alone; no driver takes part.
 ///
-/// - `equal_symbols_bind`: two finished runs that feed the same symbols, or two finished fronts of equally many steps,
-///   under any separators and from any challengers, have the same version, name and chunks. Their patterns are the same
-///   but for the names of types, and so is what each step absorbed, unless the alternate renderings of the two patterns
-///   differ and share a digest. What is absorbed: public values, salts, messages, opaque values, and witnesses of at
-///   least one bit; elements as their coefficients, bytes as bytes.
-/// - `equal_renderings_are_equal_patterns`: two patterns have one alternate rendering exactly if they are the same but for
-///   the names of types.
-/// - `hints_do_not_influence`: two finished runs of one script, separator and challenger, whose values are the same but
-///   for the bytes of hints and witnesses of 0 bits, have the same challenges and final challengers.
+/// - `equal_symbols_bind`: take two finished runs that feed the same symbols, or two finished prefixes of equally many
+///   steps. Whatever their separators and challengers, the runs have the same version, name and chunks. Unless the
+///   alternate renderings of the two patterns differ and share a digest, the patterns are the same except for the names
+///   of types. So is what each step absorbs. A step absorbs public values, salts, messages, opaque values, or witnesses
+///   of at least one bit; elements as their coefficients, bytes as bytes.
+/// - `equal_renderings_are_equal_patterns`: two patterns have one alternate rendering exactly if they are the same
+///   except for the names of types.
+/// - `hints_do_not_influence`: take two finished runs of one script, separator and challenger. Let their values be the
+///   same except for the bytes of hints and witnesses of 0 bits. Their challenges and final challengers are the same.
 ///
-/// Conditions: the challenger feeds the items of the alphabet as a prefix code, and so it feeds what the codec hands it,
-/// and the values of the opaque type that are its own. For each challenger of this repository a law says so of elements
-/// or bytes, of arrays and of digests. Caps and lists of varying length are no prefix code: the lists of lists
-/// `[[1], [2]]` and `[[1, 2]]` feed the same.
+/// Conditions: the challenger feeds as prefix codes the items of the alphabet, the values that the codec observes, and
+/// the values of the opaque type. For each challenger of this repository a law says this of elements or bytes, of
+/// arrays and of digests. Caps and lists of varying length are no prefix code: the lists of lists `[[1], [2]]` and
+/// `[[1, 2]]` feed the same symbols.
 ///
-/// A law: the body calls laws alone, and a caller cites the clauses. Not in the Rust crate.
+/// A law: the body only calls laws, and a caller cites the clauses. Not in the Rust crate.
 pub fn binding<S: Suite>()
     requires items { IsPrefixCodeOn S.Unit.is_item S.Challenger.CanObserve-1.observation.symbols }
     requires values { S.Codec.feeds_prefix_code }

@@ -1,13 +1,13 @@
-//! Typed transcripts: a prover and a verifier play the steps of one pattern, over a challenger, with values that have
-//! codecs.
+//! Typed transcripts: a prover and a verifier play the steps of one pattern over a challenger, and codecs encode the
+//! values.
 //!
 //! ```text
 //! Interaction ..  ->  InteractionPattern  ->  DomainSeparator  ->  ProverState    ->  the proof
 //!                                                              ->  VerifierState  <-  the proof
 //! ```
 //!
-//! `docs/GUIDE.md` lists the steps: what each is called on either side, and how it is recorded. Under
-//! [`script`] whole protocols are lists of steps, which one call plays.
+//! `docs/GUIDE.md` lists the steps, with the method of each side and the record in the pattern. In [`script`] a whole
+//! protocol is a list of steps, which one call plays.
 
 pub mod script;
 

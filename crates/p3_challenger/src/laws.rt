@@ -1,7 +1,7 @@
-//! The laws of typed transcripts and challengers, by the question that they answer.
+//! The laws of typed transcripts and challengers, grouped by the question that they answer.
 //!
-//! A law is a function whose body is empty, or calls laws alone: what it promises is a theorem on definitions, and a caller
-//! cites it by calling it. Laws on one challenger, as that each of its methods is calls, are methods of that challenger.
+//! A law is a function whose body is empty or only calls other laws. Its contract is a theorem on definitions, which a
+//! caller cites by calling the function. A law of a single challenger is a method of that challenger.
 
 pub mod challengers;
 pub mod completeness;

@@ -1,9 +1,9 @@
-//! Fiat-Shamir challengers: what a prover and a verifier say goes in, and their random challenges
-//! come out, the same for both.
+//! Fiat-Shamir challengers: prover and verifier observe the same messages and sample the same
+//! random challenges.
 //!
-//! This crate has no code of its own. It shows the challengers at its root and typed transcripts
-//! under [`fs`], and to those who write contracts all definitions but those of fields, which
-//! `p3_field` shows.
+//! This crate has no code of its own. It re-exports the challengers at its root and typed
+//! transcripts under [`fs`]. For authors of contracts it re-exports all definitions except those of
+//! fields, which `p3_field` re-exports.
 #![tactic(auto)]
 
 pub mod fs;

@@ -14,7 +14,7 @@ lt-true n m h = grind (arith, nat_tests)
 lt-false : (n m : ℕ) → nat_lt n m ≡ false → m ≤ n
 lt-false n m h = grind (arith, nat_tests)
 
--- it is at most the bound
+-- the result is at most the bound
 pub greatest-le : (order k : ℕ) → greatest_below order k ≤ k
 unfolding greatest_below
 greatest-le order zero = omega arith
@@ -26,7 +26,7 @@ exponent_le i j n is below = elim (cases_lt j i) [
   | inr at_most ↦ at_most
 ]
 
--- it is the only number with its power below the order and the next power not
+-- the result is the only number whose power of two is below the order and whose next power is not
 pub greatest-is : (order k b : ℕ) → 2 ^ b < order → order ≤ 2 ^ (b + 1) → b ≤ k → greatest_below order k ≡ b
 unfolding greatest_below
 greatest-is order zero b below enough bound = omega arith
@@ -42,7 +42,7 @@ under_log order m least = elim (cases_lt (2 ^ m) order) [
   | inr more ↦ absurd (omega (arith, least more))
 ]
 
--- one less than the least power that the order does not pass
+-- the result is one less than the least exponent whose power of two is at least the order
 pub greatest-log : (order log : ℕ) → 1 < order → order < 2 ^ 64 → order ≤ 2 ^ log → ((k : ℕ) → order ≤ 2 ^ k → log ≤ k)
     → log - 1 ≡ greatest_below order 63
 greatest-log order zero above fits enough least = absurd (omega arith)
@@ -65,7 +65,7 @@ shifted-positive bits short = omega (arith, shifted bits short, pow_pos bits)
 pub most_bits-short : (order : ℕ) → most_bits_of order < 64
 most_bits-short order = omega (arith, greatest-le order 63)
 
--- the low bits of a number are below that power of two
+-- the low bits of a number are below their power of two
 pub low_bits-below : (n bits x : ℕ) → Some (n % 2 ^ bits) ≡ Some x → x < 2 ^ bits
 low_bits-below n bits x drawn =
     let same : n % 2 ^ bits ≡ x = cc in omega (arith, same, pow_pos bits)

@@ -4,7 +4,7 @@ use Rattle.std.proofs.{Common.add-one, Math.{ListN.drop_of_length-le, Seq.drop-c
 use Rattle.p3_challenger_core.specs.Observation.{observed_all, LeavesInCalls, RefusesObserve}
 use Rattle.p3_challenger_core.specs.declared.error.ChallengerError.{ChallengerError, TheVariants.OutOfMemory}
 
--- from here on, the calls that are left lead where all of them lead from the start
+-- from here the remaining calls lead where all calls lead from the start
 pub record GoesOn {S T : Type 0} (step : S → T → S) (MayLeave : S → T → S → Type 0) (start : S) (values : List T)
     (here : S) (rest : List T) : Type 0 where
   pub whole : observed_all step here rest ≡ observed_all step start values
@@ -15,7 +15,7 @@ module _ {S T : Type 0} (step : S → T → S) (MayLeave : S → T → S → Typ
   pub calls-done : (here : S) → GoesOn step MayLeave start values here [] → here ≡ observed_all step start values
   calls-done here on = on.whole
 
-  -- a call more is made
+  -- one more call is made
   pub call-made : (here next : S) (x : T) (rest : List T) → next ≡ step here x
       → GoesOn step MayLeave start values here (x ∷ rest) → GoesOn step MayLeave start values next rest
   call-made here next x rest moved on =
@@ -29,7 +29,7 @@ module _ {S T : Type 0} (step : S → T → S) (MayLeave : S → T → S → Typ
   call-refused here t x rest OutOfMemory h on = on.refused t (inl h)
   call-refused here t x rest e h on = absurd h
 
-  -- the same of the values after place i
+  -- from here the calls after place i lead where all calls lead from the start
   module _ (here : S) (i : ℕ) where
     pub goes_on-end : length values ≤ i → GoesOn step MayLeave start values here (drop i values)
         → here ≡ observed_all step start values

@@ -5,7 +5,7 @@ use Rattle.p3_challenger_core.specs.Sampling.{RefusesDraws, Sampling, draws, aft
 use Rattle.p3_challenger_core.specs.declared.error.ChallengerError.{ChallengerError}
 
 module _ {S T : Type 0} (d : Sampling S T) where
-  -- Of n draws from a start, xs were drawn: what is left of them goes on from here.
+  -- Of n draws from a start, these values were drawn; the remaining draws continue from here.
   pub record Drew (n : ℕ) (start : S) (xs : List T) (left : ℕ) (here : S) : Type 0 where
     pub drawn : draws d n start ≡ option_map (λ ys. xs ++ ys) (draws d left here)
     pub reached : after_draws d n start ≡ after_draws d left here
@@ -31,12 +31,12 @@ module _ {S T : Type 0} (d : Sampling S T) where
         refused = λ error t h. so_far.refused error t (inr (ap is_some e, h));
       }
 
-  -- the same draws, where the values or the state have another name
+  -- the same draws, with equal values or an equal state
   pub drew-as : (n : ℕ) (start : S) (xs ys : List T) (left : ℕ) (here there : S) → ys ≡ xs → there ≡ here
       → Drew n start xs left here → Drew n start ys left there
   drew-as n start xs ys left here there e f so_far = rw (e, f) so_far
 
-  -- The same at a count: i of n were drawn.
+  -- Of n draws from a start, i were made; the remaining draws continue from here.
 
   pub drew-none : (n : ℕ) (start : S) → Drew n start [] (n - 0) start
   drew-none n start =

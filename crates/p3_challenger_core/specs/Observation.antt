@@ -1,24 +1,24 @@
--- What observing a value does to a challenger.
+-- The effect of observing a value on a challenger.
 use Rattle.std.specs.{Prelude.{◌≡◌, ℕ, List, [], ◌∷◌, ◌++◌, ◌⊎◌, ◌↔◌, take, Result, MatchResult}, List.flat_map}
 use Rattle.p3_challenger_core.specs.{Sponge.IsFed, declared.error.ChallengerError.ChallengerError}
 use Rattle.p3_challenger_core.specs.declared.error.ChallengerError.TheVariants.{OutOfMemory}
 
--- what a value feeds, the state after it, and what may be left of a state where it is refused
+-- the symbols of a value, the state after it, and the states that a refusal may leave
 pub record Observation (S Symbol T : Type 0) : Type 1 where
   pub symbols : T → List Symbol
   pub observed : S → T → S
   pub may_leave : S → T → S → Type 0
 
--- what may be left of a state where a value is refused: a front of what it feeds was fed
+-- the state that a refused value may leave: a prefix of its symbols was fed
 abbrev pub LeavesFed : {S Symbol : Type 0} → (S → List Symbol → S) → S → List Symbol → S → Type 0
 LeavesFed fed s symbols t = (n : ℕ) × IsFed fed s (take n symbols) t
 
--- the same exactly, where other symbols were fed before
+-- the state that a refused value may leave, exactly, where other symbols were fed before
 abbrev pub LeavesAfter : {S Symbol : Type 0} → (S → List Symbol → S) → S → List Symbol → List Symbol → S → Type 0
 LeavesAfter fed s before symbols t = (n : ℕ) × (t ≡ fed s (before ++ take n symbols))
 
--- What is observed is what is fed, and a refused value has fed a front of it. After a symbol no outputs are
--- left that could be dropped, so there both hold exactly.
+-- An observation feeds the value's symbols, and a refused value has fed a prefix of them. After a symbol there are no
+-- outputs that could be dropped, so there both hold exactly.
 pub record IsObservation {S Symbol T : Type 0} (fed : S → List Symbol → S) (o : Observation S Symbol T) : Type 0 where
   pub observes : (s : S) (x : T) → IsFed fed s (o.symbols x) (o.observed s x)
   pub observes_after : (s : S) (y : Symbol) (ys : List Symbol) (x : T) →
@@ -33,31 +33,31 @@ unrefused_observe symbols observed = record { symbols = symbols; observed = obse
 
 -- ---- values in a row
 
--- the state after values that are observed in order
+-- the state after values are observed in order
 abbrev pub observed_all : {S T : Type 0} → (S → T → S) → S → List T → S
 observed_all observed s [] = s
 observed_all observed s (x ∷ xs) = observed_all observed (observed s x) xs
 
--- what is left of a state where one of several calls in a row is refused: those before it are done, and
--- the refused one leaves what it may
+-- the state that one refused call of several leaves: the calls before it are done, and the refused one leaves what it
+-- may
 abbrev pub LeavesInCalls : {S T : Type 0} → (S → T → S) → (S → T → S → Type 0) → S → List T → S → Type 0
 LeavesInCalls step MayLeave s [] t = ⊥
 LeavesInCalls step MayLeave s (x ∷ xs) t = MayLeave s x t ⊎ LeavesInCalls step MayLeave (step s x) xs t
 
--- what is left of a state where one of the values is refused whole: those before it were observed
+-- the state that one refused value leaves: those before it were observed, and nothing of it
 abbrev pub LeavesBeginning : {S T : Type 0} → (S → T → S) → S → List T → S → Type 0
 LeavesBeginning observed s xs t = LeavesInCalls observed (λ u _ v. v ≡ u) s xs t
 
--- what an observe that answers this error leaves: it is refused for memory alone
+-- what an observation with this error leaves; the only error is out of memory
 abbrev pub RefusesObserve : {S : Type 0} → (S → Type 0) → ChallengerError → S → Type 0
 RefusesObserve MayLeave OutOfMemory t = MayLeave t
 RefusesObserve MayLeave _ t = ⊥
 
--- what an observe of this value leaves, where it answers this error
+-- what an observation of this value leaves with this error
 abbrev pub RefusesValue : {S Symbol T : Type 0} → Observation S Symbol T → T → ChallengerError → S → S → Type 0
 RefusesValue o x e s t = RefusesObserve (o.may_leave s x) e t
 
--- a call observes a value, or is refused and leaves what its error may leave
+-- a call observes a value, or is refused and leaves the state of its error
 abbrev pub ObservesOrRefuses : {S Symbol T : Type 0} → Observation S Symbol T → T → S →
     Result (Unit {0}) ChallengerError → S → Type 0
 ObservesOrRefuses o x s result t = MatchResult result (λ _. t ≡ o.observed s x) (λ e. RefusesValue o x e s t)
@@ -70,7 +70,7 @@ in_row o = record {
   may_leave = LeavesInCalls o.observed o.may_leave;
 }
 
--- what is observed as another value
+-- a value observed as another value
 abbrev pub observed_as : {S Symbol T U : Type 0} → (U → T) → Observation S Symbol T → Observation S Symbol U
 observed_as f o = record {
   symbols = λ x. o.symbols (f x);
@@ -88,12 +88,12 @@ in_slice o slice_may_leave =
 abbrev pub each_as : {S Symbol T U : Type 0} → (U → T) → Observation S Symbol T → Observation S Symbol (List U)
 each_as f o = in_row (observed_as f o)
 
--- what a value does to each state is what this step does with what is made of the value
+-- the effect of a value on each state is that of this step on a function of the value
 abbrev pub ActsAs : {S T V : Type 0} → (S → T → S) → (S → V → S) → (T → V) → Type 0
 ActsAs {S} {T} act step made = (s : S) (x : T) → act s x ≡ step s (made x)
 
--- a value is observed as another one that it stands for: it feeds the same symbols, makes the same state, and may leave
--- the same one where it is refused
+-- A value is observed as another one that it stands for. It feeds the same symbols, leads to the same state, and may
+-- leave the same states where it is refused.
 pub record ObservesSame {S Symbol T U : Type 0} (o : Observation S Symbol U) (f : U → T) (p : Observation S Symbol T)
     : Type 0 where
   pub symbols : (x : U) → o.symbols x ≡ p.symbols (f x)

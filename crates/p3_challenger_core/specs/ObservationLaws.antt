@@ -1,4 +1,4 @@
--- Laws of what is observed: what is fed, one value and several in a row.
+-- Laws of observations: the symbols fed by one value and by several in a row.
 use Rattle.std.proofs.Common.{◌≡◌, ℕ, zero, suc, inl, inr, List, [], ◌∷◌, ◌++◌, take, Result, Ok, Err, refl, sym, ap}
 use Rattle.std.{proofs.Common.{◌∙◌, append_assoc, append-nil, subst}, specs.{List.flat_map, Result.OnOk}}
 use Rattle.p3_challenger_core.specs.{Sponge.{IsNonEmpty, IsFed}, Observation.{in_slice, observed_as, Observation}}
@@ -6,12 +6,13 @@ use Rattle.p3_challenger_core.specs.Observation.{IsObservation, LeavesFed, Leave
 use Rattle.p3_challenger_core.specs.Observation.{observed_all, unrefused_observe, in_row}
 use Rattle.p3_challenger_core.specs.declared.error.ChallengerError.{ChallengerError, TheVariants.OutOfMemory}
 
--- what follows of an observation that was not refused
+-- the consequence of an observation that was not refused
 pub on_ok : {T E : Type 0} (result : Result T E) {A B : Type 0} → (A → B) → OnOk result A → OnOk result B
 on_ok (Ok x) f h = f h
 on_ok (Err e) f h = tt
 
--- a front of a list is one of the list with another after it, and so is the list with a front of the other
+-- a prefix of the first list is a prefix of the concatenation, and so is the first list with a prefix of
+-- the second
 pub front_append : {X : Type 0} (n : ℕ) (a b : List X) → (m : ℕ) × (take m (a ++ b) ≡ take n a)
 front_append zero a b = (0, refl)
 front_append (suc n) [] b = (0, refl)
@@ -21,7 +22,7 @@ pub after_append : {X : Type 0} (n : ℕ) (a b : List X) → (m : ℕ) × (take 
 after_append n [] b = (n, refl)
 after_append n (x ∷ a) b = let rest = after_append n a b in (suc rest.0, ap (λ ys. x ∷ ys) rest.1)
 
--- observations of which none is refused are not refused in a row
+-- observations that are never refused are not refused in a row
 no_leaving : {S T : Type 0} (step : S → T → S) (s : S) (xs : List T) (t : S)
     → LeavesInCalls step (λ _ _ _. ⊥) s xs t → ⊥
 no_leaving step s [] t h = h
@@ -35,16 +36,16 @@ row-not_refused step xs e s t h = h
 
 module _ {S Symbol : Type 0} (fed : S → List Symbol → S) (fed_nothing : (s : S) → fed s [] ≡ s)
     (fed_more : (s : S) (a b : List Symbol) → fed (fed s a) b ≡ fed s (a ++ b)) where
-  -- what is fed exactly is fed
+  -- symbols that are fed exactly are fed
   pub exactly-fed : (s : S) (a : List Symbol) (t : S) → t ≡ fed s a → IsFed fed s a t
   exactly-fed s a t is =
       record { exactly = λ _. is; traceless = λ y ys. ap (λ u. fed u (y ∷ ys)) is ∙ fed_more s a (y ∷ ys) }
 
-  -- nothing fed leaves what was there
+  -- feeding no symbols leaves the state, except for dropped outputs
   pub nothing-fed : (s t : S) → t ≡ s → IsFed fed s [] t
   nothing-fed s t is = exactly-fed s [] t (is ∙ sym (fed_nothing s))
 
-  -- what is observed is fed exactly, and a refused value has fed a front of it exactly
+  -- an exact observation feeds its symbols exactly, and a refused one a prefix of them
   pub exact-observation : {T : Type 0} (o : Observation S Symbol T)
       → ((s : S) (x : T) → o.observed s x ≡ fed s (o.symbols x))
       → ((s : S) (x : T) (t : S) → o.may_leave s x t → (n : ℕ) × (t ≡ fed s (take n (o.symbols x))))
@@ -60,13 +61,13 @@ module _ {S Symbol : Type 0} (fed : S → List Symbol → S) (fed_nothing : (s :
             (front.0, front.1 ∙ fed_more s (y ∷ ys) (take front.0 (o.symbols x)));
       }
 
-  -- what is observed is fed exactly, and no value is refused
+  -- an observation that is never refused feeds its symbols exactly
   pub unrefused_observe-is_observation : {T : Type 0} (symbols : T → List Symbol) (observed : S → T → S)
       → ((s : S) (x : T) → observed s x ≡ fed s (symbols x)) → IsObservation fed (unrefused_observe symbols observed)
   unrefused_observe-is_observation symbols observed feeds =
       exact-observation (unrefused_observe symbols observed) feeds (λ s x t h. absurd h)
 
-  -- what a refusal leaves that changes nothing: no symbol was fed
+  -- a refusal that changes nothing has fed no symbol
   pub unchanged-front : (s t : S) (symbols : List Symbol) → t ≡ s → (n : ℕ) × (t ≡ fed s (take n symbols))
   unchanged-front s t symbols is = (0, is ∙ sym (fed_nothing s))
 
@@ -81,7 +82,7 @@ module _ {S Symbol : Type 0} (fed : S → List Symbol → S) (fed_nothing : (s :
   nothing_then-traceless s t u [] first second y ys = second.traceless y ys ∙ first.traceless y ys
   nothing_then-traceless s t u (z ∷ zs) first second y ys = second.traceless y ys ∙ first.traceless z (zs ++ y ∷ ys)
 
-  -- where nothing was fed to come here, what is fed from here is fed from there
+  -- symbols fed after a state to which nothing was fed are fed to the state before it
   nothing_then : (s t u : S) (b : List Symbol) → IsFed fed s [] t → IsFed fed t b u → IsFed fed s b u
   nothing_then s t u b first second =
       record {
@@ -89,7 +90,7 @@ module _ {S Symbol : Type 0} (fed : S → List Symbol → S) (fed_nothing : (s :
         traceless = nothing_then-traceless s t u b first second;
       }
 
-  -- two steps in a row, of which the second is exact after a symbol
+  -- two feeding steps in a row, of which the second is exact after a symbol
   pub fed-then : (s t u : S) (a b : List Symbol) → IsFed fed s a t → IsFed fed t b u
       → ((y : Symbol) (ys : List Symbol) → t ≡ fed s (y ∷ ys) → u ≡ fed s ((y ∷ ys) ++ b)) → IsFed fed s (a ++ b) u
   fed-then s t u [] b first second following = nothing_then s t u b first second
@@ -106,7 +107,7 @@ module _ {S Symbol : Type 0} (fed : S → List Symbol → S) (fed_nothing : (s :
         ∙ all-following s y (ys ++ o.symbols x) xs
         ∙ ap (fed s) (append_assoc (y ∷ ys) (o.symbols x) (flat_map o.symbols xs))
 
-    -- values in a row are what they feed in a row
+    -- values in a row feed their symbols in a row
     pub all-fed : (s : S) (xs : List T) → IsFed fed s (flat_map o.symbols xs) (observed_all o.observed s xs)
     all-fed s [] = nothing-fed s s refl
     all-fed s (x ∷ xs) =
@@ -115,7 +116,7 @@ module _ {S Symbol : Type 0} (fed : S → List Symbol → S) (fed_nothing : (s :
         (all-fed (o.observed s x) xs)
         (λ y ys is. ap (λ t. observed_all o.observed t xs) is ∙ all-following s y ys xs)
 
-    -- exactly so where some value feeds something, or there is none
+    -- they are fed exactly if some value feeds a symbol, or there is no value
     pub all-fed_exactly : (s : S) (xs : List T) → (IsNonEmpty xs → IsNonEmpty (flat_map o.symbols xs))
         → observed_all o.observed s xs ≡ fed s (flat_map o.symbols xs)
     all-fed_exactly s [] some = sym (fed_nothing s)
@@ -153,7 +154,7 @@ module _ {S Symbol : Type 0} (fed : S → List Symbol → S) (fed_nothing : (s :
               (exact.1 ∙ ap (fed s) (sym front.1)),
         )
 
-    -- where one of them is refused, a front of what they feed was fed
+    -- if one of the values is refused, a prefix of their symbols was fed
     pub calls-leave : (s : S) (xs : List T) (t : S) → LeavesInCalls o.observed o.may_leave s xs t
         → LeavesFed fed s (flat_map o.symbols xs) t
     calls-leave s [] t h = absurd h

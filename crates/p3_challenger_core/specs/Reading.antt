@@ -1,14 +1,14 @@
--- What every code owes: that it is a prefix code.
+-- The obligation of every code: it is a prefix code.
 use Rattle.std.specs.Prelude.{◌≡◌, ℕ, ◌<◌, ◌⊎◌, List, ◌++◌, slice_index}
 use Rattle.p3_challenger_core.specs.Sponge.{IsNonEmpty}
 
--- a prefix code of these values: no encoding begins another, and no two values have one; whatever follows, an
--- encoding is read back
+-- a prefix code of these values: no encoding begins another, no two values share one, and whatever follows,
+-- an encoding determines its value
 abbrev pub IsPrefixCodeOn : {T S : Type 0} → (T → Type 0) → (T → List S) → Type 0
 IsPrefixCodeOn {T} {S} IsValue encoding =
     (x y : T) (a b : List S) → IsValue x → IsValue y → encoding x ++ a ≡ encoding y ++ b → (x ≡ y) × (a ≡ b)
 
--- the same of all values
+-- a prefix code of all values
 abbrev pub IsPrefixCode : {T S : Type 0} → (T → List S) → Type 0
 IsPrefixCode {T} {S} encoding = (x y : T) (a b : List S) → encoding x ++ a ≡ encoding y ++ b → (x ≡ y) × (a ≡ b)
 
@@ -16,7 +16,7 @@ IsPrefixCode {T} {S} encoding = (x y : T) (a b : List S) → encoding x ++ a ≡
 abbrev pub IsByte : ℕ → Type 0
 IsByte byte = byte < 256
 
--- each is a byte
+-- each number is a byte
 abbrev pub AreBytes : List ℕ → Type 0
 AreBytes bytes = (i : ℕ) → slice_index bytes i < 256
 

@@ -41,21 +41,21 @@ made_of-is_sampling next f d laws =
       leaves = laws.leaves;
     }
 
--- what is made of a drawn value is refused as that value is
+-- a draw of a function of a value is refused as the draw of the value is
 pub made_of-refuses : {S T U : Type 0} (f : T → U) (d : Sampling S T) (e : ChallengerError) (s t : S)
     → RefusesDraw (made_of f d) e s t → RefusesDraw d e s t
 made_of-refuses f d OutOfMemory s t h = h
 made_of-refuses f d DrawLimit s t h = h
 made_of-refuses f d e s t h = h
 
--- a draw that is never refused is not refused
+-- a draw that is never refused leaves no error
 not_refused : {S T : Type 0} (sampled : S → Option T) (after : S → S) (e : ChallengerError) (s t : S)
     → RefusesDraw (unrefused_draw sampled after) e s t → ⊥
 not_refused sampled after OutOfMemory s t h = h
 not_refused sampled after DrawLimit s t h = h.0
 not_refused sampled after e s t h = h
 
--- nor are such draws in a row
+-- such draws in a row are not refused
 pub draws-not_refused : {S T : Type 0} (sampled : S → Option T) (after : S → S) (n : ℕ) (e : ChallengerError) (s t : S)
     → RefusesDraws (unrefused_draw sampled after) n e s t → ⊥
 unfolding RefusesDraws
@@ -63,14 +63,14 @@ draws-not_refused sampled after zero e s t h = h
 draws-not_refused sampled after (suc n) e s t (inl here) = not_refused sampled after e s t here
 draws-not_refused sampled after (suc n) e s t (inr later) = draws-not_refused sampled after n e (after s) t later.1
 
--- what holds of no state holds of the state of no draw
+-- a property of no state holds at no draw
 no_draw : {S T : Type 0} (d : Sampling S T) (n : ℕ) (s : S) → SomeDraw d (λ _. ⊥) n s → ⊥
 unfolding SomeDraw
 no_draw d zero s h = h
 no_draw d (suc n) s (inl here) = here
 no_draw d (suc n) s (inr later) = no_draw d n (d.after s) later.1
 
--- one draw that is made of such draws is not refused either
+-- one draw made of such draws is not refused
 pub in_row-not_refused : {S T : Type 0} (sampled : S → Option T) (after : S → S) (n : ℕ) (e : ChallengerError) (s t : S)
     → RefusesDraw (in_row (unrefused_draw sampled after) n) e s t → ⊥
 in_row-not_refused sampled after n OutOfMemory s t h = no_draw (unrefused_draw sampled after) n s h
@@ -79,13 +79,13 @@ in_row-not_refused sampled after n e s t h = h
 
 -- ---- draws in a row as one draw
 
--- after nothing comes nothing
+-- nothing follows a missing value
 none_after : {T : Type 0} (o : Option T) → option_and_then (λ x. option_map (λ (xs : List T). x ∷ xs) None) o ≡ None
 none_after None = refl
 none_after (Some x) = refl
 
 module _ {S T : Type 0} (next : S → S) (d : Sampling S T) (laws : IsSampling next d) where
-  -- where one of the draws gives nothing, they give nothing
+  -- if one of the draws gives nothing, the row gives nothing
   limit-none : (n : ℕ) (s : S) → SomeDraw d d.meets_limit n s → draws d n s ≡ None
   unfolding draws SomeDraw
   limit-none zero s h = absurd h
@@ -119,7 +119,7 @@ module _ {S T : Type 0} (next : S → S) (d : Sampling S T) (laws : IsSampling n
   in_row-is_sampling n =
       record { limit_gives_none = limit-none n; steps = row-steps n; leaves = row-leaves n }
 
-  -- where a draw gives nothing, those after it are not made
+  -- after a draw that gives nothing, no further draw is made
   stops_at : (n : ℕ) (s t : S) → d.sampled s ≡ None → t ≡ d.after s → t ≡ after_draws d (suc n) s
   unfolding after_draws
   stops_at n s t gives is = is ∙ sym (ap (λ o. if is_some o then after_draws d n (d.after s) else d.after s) gives)
@@ -141,7 +141,7 @@ module _ {S T : Type 0} (next : S → S) (d : Sampling S T) (laws : IsSampling n
   later_refused n DrawLimit s t gives h = (inr (gives, h.0), goes_after n s t gives h.1)
   later_refused n e s t gives h = absurd h
 
-  -- draws of which one is refused are a draw that is refused
+  -- if one of the draws is refused, the row is refused
   pub refused-in_row : (n : ℕ) (e : ChallengerError) (s t : S) → RefusesDraws d n e s t → RefusesDraw (in_row d n) e s t
   unfolding RefusesDraws
   refused-in_row zero e s t h = absurd h

@@ -1,5 +1,5 @@
--- Laws of segments: a list of calls has one cut, and what the calls do one by one is what its segments do,
--- wherever each step of a segment does what one call does.
+-- Laws of segments. A list of calls has one cut, and its calls do one by one what its segments do. The
+-- premise is that each step of a segment does what one call does.
 use Rattle.std.{specs.List.All, proofs.lemmas.List.Elements.{All-cons, All-head, All-tail, All-nil}}
 use Rattle.std.proofs.Common.{append_assoc, append-nil, replicate, arith, zero, List, ◌++◌, refl, ◌≡◌, suc, ◌<◌, ◌∷◌}
 use Rattle.std.proofs.Common.{inl, inr, map, sym, ◌∙◌, [], ap, ℕ}
@@ -10,7 +10,7 @@ use Rattle.p3_challenger_core.specs.Segments.{BySegments, run_segment, run_other
 
 -- ---- the cut of a list of calls is one
 
--- a value in front of a cut
+-- a value before a cut
 cut-value : {T : Type 0} (x : T) (calls : List (Call T)) (first : Segment T) (others : List (Segment T))
     → AreCutInto first others calls → AreCutInto (record { values = x ∷ first.values; draws = first.draws }) others
     (observe x ∷ calls)
@@ -24,7 +24,7 @@ cut-value x calls first (next ∷ others) h = (
   h.2,
 )
 
--- a draw in front of one whose first segment observes nothing
+-- a draw before calls whose first segment observes nothing
 cut-draw_only : {T : Type 0} (calls : List (Call T)) (draws : ℕ) (others : List (Segment T))
     → AreCutInto (record { values = []; draws = draws }) others calls
     → AreCutInto (record { values = []; draws = suc draws }) others (draw ∷ calls)
@@ -52,7 +52,7 @@ segments-cut (draw ∷ calls) =
     let first = (segments calls).first in
     cut-draw calls first.values first.draws (segments calls).others (segments-cut calls)
 
--- the cut of values in front of calls whose first segment observes nothing
+-- the cut of values before calls whose first segment observes nothing
 values-segments : {T : Type 0} (values : List T) (draws : ℕ) (others : List (Segment T)) (calls : List (Call T))
     → segments calls ≡ record { first = record { values = []; draws = draws }; others = others }
     → segments (map observe values ++ calls)
@@ -60,7 +60,7 @@ values-segments : {T : Type 0} (values : List T) (draws : ℕ) (others : List (S
 values-segments [] draws others calls h = h
 values-segments (x ∷ xs) draws others calls h = ap (value_before x) (values-segments xs draws others calls h)
 
--- and of draws there
+-- the cut of draws before calls whose first segment observes nothing
 draws-segments : {T : Type 0} (n : ℕ) (others : List (Segment T)) (calls : List (Call T))
     → segments calls ≡ record { first = nothing; others = others }
     → segments (replicate n draw ++ calls) ≡ record { first = record { values = []; draws = n }; others = others }
@@ -68,7 +68,7 @@ draws-segments zero others calls h = h
 draws-segments (suc n) others calls h =
     ap (λ cut. draw_before cut.first cut.others cut.first.values) (draws-segments n others calls h)
 
--- draws in front of a segment that observes something end one of their own
+-- draws before a segment that observes something end a segment of their own
 draws-segments_ended : {T : Type 0} (n : ℕ) (values : List T) (draws : ℕ) (others : List (Segment T))
     (calls : List (Call T)) → IsNonEmpty values
     → segments calls ≡ record { first = record { values = values; draws = draws }; others = others }
@@ -103,7 +103,7 @@ ended-by_draw values (suc n) next others rest draws some h =
     calls_of-more (record { values = values; draws = suc n }) (next ∷ others) rest
     (draws-segments_ended n next.values next.draws others rest some h)
 
--- every cut of calls is theirs
+-- every cut of calls is the computed one
 pub cut-only : {T : Type 0} (calls : List (Call T)) (first : Segment T) (others : List (Segment T))
     → AreCutInto first others calls → record { first = first; others = others } ≡ segments calls
 cut-only calls first [] h =
@@ -135,7 +135,7 @@ module _ {A M S R : Type 0} where
 run_before-stays : {A M S : Type 0} (a : Run A M S) → run_before a (stays a.after) ≡ a
 run_before-stays a = λ i. record { answers = append-nil a.answers i; queries = append-nil a.queries i; after = a.after }
 
--- Each step of a segment does what one call does, of states that keep something.
+-- Each step of a segment does what one call does, in states with this invariant.
 pub record StepsAgree {T A M D S : Type 0} (Keeps : S → Type 0) (calls : ByCalls T A M D S)
     (over : BySegments T A M D S) : Type 0 where
   pub no_values : (s : S) → over.values s [] ≡ stays s
@@ -155,7 +155,7 @@ module _ {T A M D S : Type 0} (Keeps : S → Type 0) (by : ByCalls T A M D S) (o
   nothing-run : (s : S) → run_segment over s nothing ≡ stays s
   nothing-run s = ap (λ run. run_before run (over.draws run.after 0)) (agree.no_values s) ∙ agree.no_draws s
 
-  -- one that only draws
+  -- a segment that only draws
   draws-run : (s : S) (n : ℕ) → run_segment over s (record { values = []; draws = n }) ≡ over.draws s n
   draws-run s n = ap (λ run. run_before run (over.draws run.after n)) (agree.no_values s)
 
@@ -170,7 +170,7 @@ module _ {T A M D S : Type 0} (Keeps : S → Type 0) (by : ByCalls T A M D S) (o
       ap (λ r. run_before r (over.draws r.after n)) (agree.next_value s keeps x xs)
       ∙ run_before-assoc run values (over.draws values.after n)
 
-  -- one draw more
+  -- one more draw
   draw-run : (s : S) → Keeps s → (n : ℕ)
       → run_segment over s (record { values = []; draws = suc n })
       ≡ (let run = by.call s draw in run_before run (run_segment over run.after (record { values = []; draws = n })))
@@ -183,13 +183,13 @@ module _ {T A M D S : Type 0} (Keeps : S → Type 0) (by : ByCalls T A M D S) (o
       let run = by.call s draw in
       draw-run s keeps 0 ∙ ap (run_before run) (nothing-run run.after) ∙ run_before-stays run
 
-  -- a segment that observes something begins where one ended as it does in its middle
+  -- a segment that observes something does so at its beginning as in its middle
   ended-run : (s : S) (x : T) (xs : List T) (n : ℕ)
       → run_segment over (over.ended s) (record { values = x ∷ xs; draws = n }) ≡ run_segment over s
       (record { values = x ∷ xs; draws = n })
   ended-run s x xs n = ap (λ run. run_before run (over.draws run.after n)) (agree.ended_values s x xs)
 
-  -- a step in front of a segment, and those after it
+  -- a step before a segment and those after it
   step-first : (step run : Run A M S) (others : List (Segment T))
       → run_before step (run_before run (run_others over run.after others))
       ≡ (let both = run_before step run in run_before both (run_others over both.after others))
@@ -232,7 +232,7 @@ module _ {T A M D S : Type 0} (Keeps : S → Type 0) (by : ByCalls T A M D S) (o
       ap (run_before run) (run_calls-segments run.after (agree.keeps s keeps draw) calls)
       ∙ draw-first s keeps cut.first.values cut.first.draws cut.others
 
-  -- so do they before a digest
+  -- calls before a digest do what their segments do
   pub run_calls-segments_to_digest : (s : S) → Keeps s → (calls : List (Call T))
       → run_calls_to_digest by s calls ≡ run_segments_to_digest over s (segments calls)
   run_calls-segments_to_digest s keeps calls =
@@ -250,7 +250,7 @@ all-second : {X : Type 0} (P : X → Type 0) (xs ys : List X) → All P (xs ++ y
 all-second P [] ys h = h
 all-second P (x ∷ xs) ys h = all-second P xs ys (All-tail P x (xs ++ ys) h)
 
--- one challenger, and another that does the same wherever P holds of all that the one queries
+-- one challenger, and another that does the same wherever P holds of all queries of the first
 module _ {T A M D S : Type 0} (P : M → Type 0) (by other : ByCalls T A M D S)
     (same_call : (s : S) (call : Call T) → All P (by.call s call).queries → other.call s call ≡ by.call s call)
     (same_digest : (s : S) → All P (by.digest s).queries → other.digest s ≡ by.digest s) where
@@ -271,7 +271,7 @@ module _ {T A M D S : Type 0} (P : M → Type 0) (by other : ByCalls T A M D S)
       ap (λ r. run_before r (other.digest r.after)) (run_calls-same s calls (all-first P run.queries last h))
       ∙ ap (run_before run) (same_digest run.after (all-second P run.queries last h))
 
--- ---- one challenger, and another that does the same in each state that it comes to
+-- ---- one challenger, and another that does the same in each state that the first reaches
 
 module _ {T A M D S : Type 0} (Keeps : S → Type 0) (by other : ByCalls T A M D S)
     (same_call : (s : S) → Keeps s → (call : Call T) → other.call s call ≡ by.call s call)

@@ -1,20 +1,20 @@
--- Lists of calls on a challenger, how they are cut into segments, and what they do: call by call, and
--- segment by segment.
+-- Lists of calls on a challenger, their cuts into segments, and their effects, call by call and segment
+-- by segment.
 use Rattle.std.specs.Prelude.{◌≡◌, ℕ, suc, ◌<◌, List, [], ◌∷◌, ◌++◌, ◌⊎◌, map, replicate}
 use Rattle.p3_challenger_core.specs.Sponge.{IsNonEmpty}
 
--- a call on a challenger: a value is observed, an array of no places is observed, a value is drawn
+-- a call on a challenger: a value is observed, an empty array is observed, or a value is drawn
 pub data Call (T : Type 0) : Type 0 where
   observe : T → Call T
   observe_empty_array : Call T
   draw : Call T
 
--- values that are observed one after another, and then a number of draws
+-- values that are observed one after another, followed by a number of draws
 pub record Segment (T : Type 0) : Type 0 where
   pub values : List T
   pub draws : ℕ
 
--- a list of calls, cut into segments: there is at least one
+-- a list of calls cut into at least one segment
 pub record Segments (T : Type 0) : Type 0 where
   pub first : Segment T
   pub others : List (Segment T)
@@ -28,11 +28,11 @@ nothing = record { values = []; draws = 0 }
 abbrev pub value_before : {T : Type 0} → T → Segments T → Segments T
 value_before x cut = record cut { first = record { values = x ∷ cut.first.values; draws = cut.first.draws } }
 
--- an array of no places ends a segment
+-- an empty array ends a segment
 abbrev pub segment_before : {T : Type 0} → Segment T → Segments T → Segments T
 segment_before segment cut = record { first = segment; others = cut.first ∷ cut.others }
 
--- a draw before a cut list is the first segment's where that observes nothing, and else ends a
+-- a draw before a cut list belongs to the first segment if that observes nothing, and else ends a
 -- segment of its own
 abbrev pub draw_before : {T : Type 0} → Segment T → List (Segment T) → List T → Segments T
 draw_before first others [] = record { first = record { values = []; draws = suc first.draws }; others = others }
@@ -46,17 +46,17 @@ segments (draw ∷ calls) = draw_before (segments calls).first (segments calls).
 
 -- ---- when segments are a cut of calls
 
--- the calls of one segment: its values in order, and then its draws
+-- the calls of one segment: its values in order, followed by its draws
 abbrev pub calls_of : {T : Type 0} → Segment T → List (Call T)
 calls_of segment = map observe segment.values ++ replicate segment.draws draw
 
--- calls are those of a segment and then the rest, where the next segment begins: an array of no places
--- stands between them; or nothing does, and then the segment draws and the next one observes a value
+-- the calls are those of a segment and a rest at which the next segment begins. An empty array stands
+-- between them; or nothing does, the segment draws, and the next one observes a value
 abbrev pub EndsBefore : {T : Type 0} → Segment T → Segment T → List (Call T) → List (Call T) → Type 0
 EndsBefore segment next rest calls = (calls ≡ calls_of segment ++ observe_empty_array ∷ rest)
     ⊎ ((calls ≡ calls_of segment ++ rest) × (0 < segment.draws) × IsNonEmpty next.values)
 
--- calls are those of a segment and of the others after it, and each ends before the next one
+-- the calls are those of a segment and of the segments after it, and each ends before the next one
 abbrev pub AreCutInto : {T : Type 0} → Segment T → List (Segment T) → List (Call T) → Type 0
 AreCutInto segment [] calls = calls ≡ calls_of segment
 AreCutInto {T} segment (next ∷ others) calls =
@@ -67,9 +67,9 @@ IsCutOf calls cut = AreCutInto cut.first cut.others calls
 
 -- ---- what calls do
 
--- What calls answer, each draw in order; what they query the permutation or the hash function with, in
--- order; and what they leave: the challenger, or the digest that they end in. An answer is an A, a state
--- or string that is queried an M, and what is left an S.
+-- The effect of calls: their results, one for each draw, in order; their queries to the permutation or
+-- the hash function, in order; and the challenger or final digest that they leave. A result is an A, a
+-- queried state or string is an M, and what is left is an S.
 pub record Run (A M S : Type 0) : Type 0 where
   pub answers : List A
   pub queries : List M
@@ -79,7 +79,7 @@ pub record Run (A M S : Type 0) : Type 0 where
 abbrev pub stays : {A M S : Type 0} → S → Run A M S
 stays s = record { answers = []; queries = []; after = s }
 
--- one run and then another
+-- one run followed by another
 abbrev pub run_before : {A M S R : Type 0} → Run A M S → Run A M R → Run A M R
 run_before first next = record {
   answers = first.answers ++ next.answers;
@@ -89,7 +89,7 @@ run_before first next = record {
 
 -- ---- call by call
 
--- a challenger of values T call by call: what a call does, and what a digest D does
+-- a challenger of values T call by call: the effect of each call, and of a final digest D
 pub record ByCalls (T A M D S : Type 0) : Type 0 where
   pub call : S → Call T → Run A M S
   pub digest : S → Run A M D
@@ -98,14 +98,14 @@ abbrev pub run_calls : {T A M D S : Type 0} → ByCalls T A M D S → S → List
 run_calls by s [] = stays s
 run_calls by s (call ∷ calls) = let run = by.call s call in run_before run (run_calls by run.after calls)
 
--- calls, and then a digest
+-- calls followed by a digest
 abbrev pub run_calls_to_digest : {T A M D S : Type 0} → ByCalls T A M D S → S → List (Call T) → Run A M D
 run_calls_to_digest by s calls = let run = run_calls by s calls in run_before run (by.digest run.after)
 
 -- ---- segment by segment
 
--- a challenger over segments: what values do that are observed one after another, what a number of draws
--- does, how it stands at the end of a segment before the next one begins, and what a digest does
+-- A challenger over segments: the effects of values observed one after another, of a number of draws,
+-- of the end of a segment, and of a final digest.
 pub record BySegments (T A M D S : Type 0) : Type 0 where
   pub values : S → List T → Run A M S
   pub draws : S → ℕ → Run A M S
@@ -123,6 +123,6 @@ run_others by s (segment ∷ others) =
 abbrev pub run_segments : {T A M D S : Type 0} → BySegments T A M D S → S → Segments T → Run A M S
 run_segments by s cut = let run = run_segment by s cut.first in run_before run (run_others by run.after cut.others)
 
--- segments, and then a digest
+-- segments followed by a digest
 abbrev pub run_segments_to_digest : {T A M D S : Type 0} → BySegments T A M D S → S → Segments T → Run A M D
 run_segments_to_digest by s cut = let run = run_segments by s cut in run_before run (by.digest run.after)

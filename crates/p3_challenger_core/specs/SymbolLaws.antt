@@ -1,4 +1,4 @@
--- Laws of what values feed a challenger.
+-- Laws of the symbols that values feed.
 use Rattle.std.proofs.Common.{◌≡◌, ℕ, zero, suc, ◌<◌, ◌⊎◌, inl, inr, lit<, List, [], ◌∷◌, ◌++◌, length, refl, sym, ap}
 use Rattle.std.{proofs.Common.{◌∙◌, append_assoc, arith}, specs.List.flat_map}
 use Rattle.p3_field_core.specs.{Residues.{Residues, IsResidues}, ResidueLaws.of-injective}
@@ -12,19 +12,19 @@ empty_or_not (x ∷ xs) = inr tt
 
 module _ {T S : Type 0} (IsValue : T → Type 0) (encoding : T → List S) (prefix_code : IsPrefixCodeOn IsValue encoding)
   where
-    -- a value that feeds nothing is every value
+    -- a value without symbols is the only value
     only_value : (x y : T) → IsValue x → IsValue y → encoding x ≡ [] → x ≡ y
     only_value x y x_is y_is empty =
         (prefix_code x y (encoding y ++ []) [] x_is y_is (ap (λ a. a ++ (encoding y ++ [])) empty)).0
 
-    -- so each feeds something, where two differ
+    -- if two values differ, each value feeds a symbol
     pub prefix_code-non_empty : (x y z : T) → IsValue x → IsValue y → IsValue z → (y ≡ z → ⊥) → IsNonEmpty (encoding x)
     prefix_code-non_empty x y z x_is y_is z_is differ = elim (empty_or_not (encoding x)) [
       | inl empty ↦ absurd (differ (sym (only_value x y x_is y_is empty) ∙ only_value x z x_is z_is empty))
       | inr some ↦ some
     ]
 
--- so an element of a field feeds something
+-- an element of a field feeds a symbol
 module _ {F Symbol : Type 0} (r : Residues F) (laws : IsResidues r) (symbols : F → List Symbol)
     (prefix_code : IsPrefixCode symbols) where
   zero_is_not_one : r.of 0 ≡ r.of 1 → ⊥
@@ -38,7 +38,7 @@ module _ {F Symbol : Type 0} (r : Residues F) (laws : IsResidues r) (symbols : F
       prefix_code-non_empty (λ _. Unit {0}) symbols (λ y z a b _ _ e. prefix_code y z a b e) x (r.of 0) (r.of 1) tt
       tt tt zero_is_not_one
 
--- and so does a byte
+-- a byte feeds a symbol
 module _ {Symbol : Type 0} (symbols : ℕ → List Symbol) (prefix_code : IsPrefixCodeOn IsByte symbols) where
   pub byte-feeds : (byte : ℕ) → IsByte byte → IsNonEmpty (symbols byte)
   byte-feeds byte is = prefix_code-non_empty IsByte symbols prefix_code byte 0 1 is (lit< tt) (lit< tt) (λ e. cc)
@@ -55,7 +55,7 @@ append-non_empty : {S : Type 0} (a b : List S) → IsNonEmpty a → IsNonEmpty (
 append-non_empty [] b some = absurd some
 append-non_empty (x ∷ a) b some = tt
 
--- values of which each feeds something feed something, where there is one
+-- values in a row feed a symbol if each does and there is one
 pub row-feeds : {T S : Type 0} (symbols : T → List S) → ((x : T) → IsNonEmpty (symbols x)) → (xs : List T)
     → IsNonEmpty xs → IsNonEmpty (flat_map symbols xs)
 row-feeds symbols each [] some = absurd some
@@ -67,7 +67,7 @@ bytes-feed symbols each [] are some = absurd some
 bytes-feed symbols each (byte ∷ bytes) are some =
     append-non_empty (symbols byte) (flat_map symbols bytes) (each byte (are zero))
 
--- as many values in a row are a prefix code, where the values are
+-- equally many values in a row are a prefix code if the values are
 rows-prefix_code : {T S : Type 0} (IsValue : T → Type 0) (AreValues : List T → Type 0) (encoding : T → List S)
     → IsPrefixCodeOn IsValue encoding
     → ((x : T) (xs : List T) → AreValues (x ∷ xs) → IsValue x × AreValues xs)
@@ -105,20 +105,20 @@ as_many-prefix_code (x ∷ xs) (y ∷ ys) a b same e =
     let others = as_many-prefix_code xs ys a b fewer first.1 in
     (ap (λ z. z ∷ xs) first.0 ∙ ap (λ zs. y ∷ zs) others.0, others.1)
 
--- so do arrays of N places
+-- arrays of N values are a prefix code
 pub places-prefix_code : {S : Type 0} (N : ℕ) → IsPrefixCodeOn (λ (xs : List S). length xs ≡ N) (λ xs. xs)
 places-prefix_code N xs ys a b x_is y_is e =
     let same : length xs ≡ length ys = omega (arith, x_is, y_is) in
     as_many-prefix_code xs ys a b same e
 
--- and so do values of N places, which their places tell apart
+-- values with N places, which determine them, are a prefix code
 pub valued-prefix_code : {X S : Type 0} (N : ℕ) (values : X → List S) → ((x : X) → length (values x) ≡ N)
     → ((x y : X) → values x ≡ values y → x ≡ y) → IsPrefixCode values
 valued-prefix_code N values places tells x y a b e =
     let read = places-prefix_code N (values x) (values y) a b (places x) (places y) e in
     (tells x y read.0, read.1)
 
--- bytes too
+-- byte strings of one length are a prefix code if bytes are
 pub bytes-prefix_code : {S : Type 0} (symbols : ℕ → List S) → IsPrefixCodeOn IsByte symbols
     → (xs ys : List ℕ) (a b : List S)
     → AreBytes xs → AreBytes ys → length xs ≡ length ys → flat_map symbols xs ++ a ≡ flat_map symbols ys ++ b

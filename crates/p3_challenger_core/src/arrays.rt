@@ -4,10 +4,10 @@ ghost use Rattle.p3_challenger_core.specs.Sampling.{draws, after_draws, RefusesD
 
 use crate::{CanSample, ChallengerError};
 
-/// Draws `N` values in order, as [`sample`](CanSample::sample) for each would.
+/// Draws `N` values in order, as [`sample`](CanSample::sample) of each does.
 ///
-/// The errors are those of `sample`. After one, the draws before the refused one are done. A member of `CanSample` in
-/// the Rust crate; values are `Copy` here.
+/// The errors are those of `sample`. After an error the draws before the refused one are done. In the Rust crate the
+/// function is a member of `CanSample`. Here the values are `Copy`.
 pub fn sample_array<T: Copy, C: CanSample<T>, const N: usize>(
     challenger: &mut C,
 ) -> Result<[T; N], ChallengerError>
@@ -29,7 +29,7 @@ pub fn sample_array<T: Copy, C: CanSample<T>, const N: usize>(
     drawn_array(values)
 }
 
-/// An array of `N` has `N` places, whoever made it.
+/// An array of length `N` has `N` values, whoever made it.
 ///
 /// A law: the body does nothing, and a caller cites the clause.
 pub fn array_has_places<T, const N: usize>(values: &[T; N])

@@ -1,11 +1,11 @@
-//! What every challenger promises, as traits.
+//! The promises of every challenger, as traits.
 //!
-//! A value goes in by [`CanObserve`], and feeds the challenger its symbols. A value comes out by [`CanSample`], made of
-//! the challenger's smallest draws. Contracts say both of one state, which [`Sponge`] names:
+//! [`CanObserve`] takes a value and feeds the challenger its symbols. [`CanSample`] draws a value by the challenger's
+//! smallest draws. Contracts describe both on one state, which [`Sponge`] names:
 //!
 //! ```text
 //! observe x:   s  ->  fed s (symbols of x)
-//! sample:      s  ->  sampled s, and the state after so many of the smallest draws
+//! sample:      s  ->  sampled s, and the state after some number of smallest draws
 //! ```
 ghost use Rattle.std.specs.Prelude.{◌≡◌, List, [], ◌++◌, Some, OnOk, IfOk, IfErr, ◌<◌, ◌≤◌, ◌^◌, ℕ, length};
 ghost use Rattle.p3_challenger_core.specs.Observation.{Observation, IsObservation, observed_all, LeavesInCalls};
@@ -15,14 +15,14 @@ ghost use Rattle.p3_challenger_core.specs.Sampling.{Sampling, IsSampling, draws,
 use crate::ChallengerError;
 use std::alloc::Global;
 
-/// What contracts see of a challenger: its state, and what the state is fed.
+/// The view of contracts on a challenger: its state, and the symbols fed to it.
 ///
 /// Not in the Rust crate.
 pub trait Sponge {
-    /// The challenger itself as contracts see it.
+    /// The challenger's state as contracts see it.
     type State;
 
-    /// What it absorbs: one symbol.
+    /// The type of one symbol that it absorbs.
     type Symbol;
 
     // The state of a challenger.
@@ -43,7 +43,7 @@ pub trait Sponge {
 
 /// A challenger that observes values of a type.
 ///
-/// The Rust crate's `CanObserve`.
+/// Corresponds to the Rust crate's `CanObserve`.
 pub trait CanObserve<T>: Sponge {
     // What a value feeds, the state after it, and what is left of a state where it is refused.
     ghost observation: { Observation Self.State Self.Symbol T };
@@ -51,9 +51,9 @@ pub trait CanObserve<T>: Sponge {
     // What is left of a state where a slice of these values is refused.
     ghost slice_may_leave: { Self.State → List T → Self.State → Type 0 };
 
-    /// Observes a value: every draw from here on depends on it.
+    /// Observes a value, on which every later draw depends.
     ///
-    /// The one error is [`ChallengerError::OutOfMemory`]. After it some front of the value's symbols is fed, maybe
+    /// The one error is [`ChallengerError::OutOfMemory`]. After it a prefix of the value's symbols is fed, possibly
     /// none; each challenger says which.
     fn observe(&mut self, value: T) -> Result<(), ChallengerError>
         ensures ok { OnOk result
@@ -61,11 +61,11 @@ pub trait CanObserve<T>: Sponge {
         ensures err { IfErr result (λ e. RefusesObserve
             (observation.may_leave (Self.state self.old) value) e (Self.state self.new)) };
 
-    /// Observes values in order, as [`observe`](CanObserve::observe) of each would. Here each challenger writes it,
+    /// Observes values in order, as [`observe`](CanObserve::observe) of each does. Here each challenger implements it,
     /// for values of any type.
     ///
-    /// The one error is [`ChallengerError::OutOfMemory`]. After it some front of the values is observed, and some
-    /// front of the next one's symbols is fed.
+    /// The one error is [`ChallengerError::OutOfMemory`]. After it a prefix of the values is observed, and a prefix of
+    /// the next one's symbols is fed.
     fn observe_slice(&mut self, values: &[T]) -> Result<(), ChallengerError>
         ensures ok { OnOk result (Self.state self.new
             ≡ observed_all observation.observed (Self.state self.old) values.now) }
@@ -81,28 +81,29 @@ pub trait CanObserve<T>: Sponge {
         slice_may_leave s xs t → LeavesInCalls observation.observed observation.may_leave s xs t };
 }
 
-/// A challenger that values of a type are drawn from.
+/// A challenger that draws values of a type.
 ///
-/// The Rust crate's `CanSample`. Its `sample_array` is a function here, [`sample_array`](crate::sample_array).
+/// Corresponds to the Rust crate's `CanSample`. Its `sample_array` is a function here,
+/// [`sample_array`](crate::sample_array).
 pub trait CanSample<T: Drop>: Sponge {
     // What a draw gives, the state after it, and when it is refused and what it leaves then.
     ghost sampling: { Sampling Self.State T };
 
     /// Draws a value, which depends on everything observed so far.
     ///
-    /// The errors are [`ChallengerError::OutOfMemory`], after which some of the smallest draws are done, maybe none,
-    /// and [`ChallengerError::DrawLimit`] where as many candidates as the challenger's limit allows were drawn and
-    /// each was refused; they are consumed then.
+    /// The errors are [`ChallengerError::OutOfMemory`] and [`ChallengerError::DrawLimit`]. After the former some number
+    /// of smallest draws is done, possibly none. The latter comes where as many candidates as the challenger's limit
+    /// allows were drawn and rejected; they are consumed then.
     fn sample(&mut self) -> Result<T, ChallengerError>
         ensures drawn { IfOk result (λ x. sampling.sampled (Self.state self.old) ≡ Some x) }
         ensures after { OnOk result (Self.state self.new ≡ sampling.after (Self.state self.old)) }
         ensures err { IfErr result
             (λ e. RefusesDraw sampling e (Self.state self.old) (Self.state self.new)) };
 
-    /// Draws a value for each place, in order, as [`sample`](CanSample::sample) for each would.
+    /// Draws a value for each place, in order, as [`sample`](CanSample::sample) of each does.
     ///
-    /// The errors are those of `sample`. After one, the draws before the refused one are done, and what the places hold
-    /// is not promised.
+    /// The errors are those of `sample`. After an error the draws before the refused one are done, and the contents of
+    /// the places are unspecified.
     fn sample_into_slice(&mut self, values: &mut [T]) -> Result<(), ChallengerError>
         ensures drawn { OnOk result
             (draws sampling (length values.old) (Self.state self.old) ≡ Some values.new) }
@@ -117,8 +118,7 @@ pub trait CanSample<T: Drop>: Sponge {
         Ok(())
     }
 
-    /// Draws `n` values in order, as [`sample`](CanSample::sample) for each would. Their memory is
-    /// asked for first.
+    /// Draws `n` values in order, as [`sample`](CanSample::sample) of each does. Memory for them is allocated first.
     ///
     /// The errors are those of `sample`, and [`ChallengerError::OutOfMemory`] with nothing drawn.
     fn sample_vec(&mut self, alloc: Global, n: usize) -> Result<Vec<T>, ChallengerError>
@@ -140,24 +140,24 @@ pub trait CanSample<T: Drop>: Sponge {
     ghost samples: { IsSampling Self.next sampling };
 }
 
-/// A challenger that ends in a digest of all that was observed.
+/// A challenger that ends in a digest of everything observed.
 ///
-/// The Rust crate's `CanFinalizeDigest`.
+/// Corresponds to the Rust crate's `CanFinalizeDigest`.
 pub trait CanFinalizeDigest: Sponge {
-    /// What it ends in.
+    /// The type of the final digest.
     type Digest;
 
     // The digest of a state.
     ghost digest_of: { Self.State → Self.Digest };
 
-    /// The digest of this challenger, which it ends with.
+    /// Spends the challenger and returns its digest.
     fn finalize(self) -> Self::Digest
         ensures { result ≡ digest_of (Self.state self) };
 }
 
-/// A challenger that numbers of some bits are drawn from.
+/// A challenger that draws numbers of a given bit width.
 ///
-/// The Rust crate's `CanSampleBits`.
+/// Corresponds to the Rust crate's `CanSampleBits`.
 pub trait CanSampleBits<T>: Sponge {
     // The most bits that one draw may ask for.
     ghost most_bits: { ℕ };
@@ -168,13 +168,13 @@ pub trait CanSampleBits<T>: Sponge {
     // The number that a drawn value is.
     ghost number: { T → ℕ };
 
-    /// The most bits that one draw may ask for: below 64. Not in the Rust crate, where too many bits panic.
+    /// Returns the greatest number of bits of one draw, below 64. Not in the Rust crate, where too many bits panic.
     fn max_bits() -> usize
         ensures { result ≡ most_bits };
 
-    /// Draws a number of `bits` bits, so one below `2^bits`. They are at most [`max_bits`](CanSampleBits::max_bits).
+    /// Draws a number of `bits` bits, below `2^bits`. `bits` is at most [`max_bits`](CanSampleBits::max_bits).
     ///
-    /// The errors are those of [`CanSample::sample`], and leave what they leave there.
+    /// The errors are those of [`CanSample::sample`], with the same state after them.
     fn sample_bits(&mut self, bits: usize) -> Result<T, ChallengerError>
         requires { bits ≤ most_bits }
         ensures drawn { IfOk result

@@ -1,4 +1,4 @@
-//! Why a challenger refuses a call.
+//! The errors of challengers.
 ghost use Rattle.std.specs.Prelude.{◌≡◌};
 ghost use Rattle.p3_field_core.specs.Equality.{IsExact};
 ghost use Rattle.p3_challenger_core.specs.declared.error.ChallengerError.TheVariants.{OutOfMemory};
@@ -6,16 +6,16 @@ ghost use Rattle.p3_challenger_core.specs.declared.error.ChallengerError.TheVari
 use std::alloc::{AllocError, AllocFailed};
 use thiserror::Error;
 
-/// Why a call on a challenger was refused. What stands then the call says.
+/// Says why a call on a challenger was refused. Each method says which state an error leaves.
 ///
-/// Not in the Rust crate, where being out of memory or of a witness ends the process, and a draw that rejects values has
-/// no limit.
+/// Not in the Rust crate. There a refused allocation or a missing witness ends the process, and a draw that rejects
+/// values has no limit.
 #[derive(Clone, Copy, Debug, PartialEq, Eq, Error)]
 pub enum ChallengerError {
     /// An allocation was refused.
     #[error("out of memory")]
     OutOfMemory,
-    /// As many candidates in a row as the draw limit allows were drawn, and each was refused.
+    /// As many candidates in a row as the draw limit allows were drawn, and each was rejected.
     #[error("draw limit")]
     DrawLimit,
     /// No candidate of a search passes.
@@ -27,7 +27,7 @@ pub enum ChallengerError {
 }
 
 impl ChallengerError {
-    /// Two errors compare equal exactly where they are one.
+    /// Two errors compare equal exactly where they are the same.
     ///
     /// A law: the body is empty, and a caller cites the clause.
     pub fn compared_exactly()

@@ -1,5 +1,5 @@
-//! Elements of vector spaces over a challenger's field: each is observed and drawn by its coefficients, coefficient 0
-//! first.
+//! Elements of vector spaces over a challenger's field, which are observed and drawn by their coefficients, coefficient
+//! 0 first.
 ghost use Rattle.std.specs.Prelude.{◌≡◌, ◌-◌, ◌∷◌, Some, OnOk, IfOk, IfErr, replicate};
 ghost use Rattle.p3_challenger_core.specs.Observation.{observed_all, each_as, in_slice, RefusesObserve, RefusesValue};
 ghost use Rattle.p3_challenger_core.specs.Sampling.{draws, after_draws, RefusesDraws};
@@ -9,7 +9,7 @@ use p3_field_core::{Algebra, BasedVectorSpace, Field};
 
 /// A challenger of the elements of a field, and of the vector spaces over it.
 ///
-/// The Rust crate's `FieldChallenger`, which is `Sync` besides.
+/// Corresponds to the Rust crate's `FieldChallenger`, which is also `Sync`.
 pub trait FieldChallenger<F: Field>: CanObserve<F> + CanSample<F> + CanSampleBits<usize> {
     /// Observes the coefficients of an element, in the order of the basis.
     ///
@@ -27,11 +27,11 @@ pub trait FieldChallenger<F: Field>: CanObserve<F> + CanSample<F> + CanSampleBit
         self.observe_slice(element.as_basis_coefficients_slice())
     }
 
-    /// Observes elements in order, as
-    /// [`observe_algebra_element`](FieldChallenger::observe_algebra_element) of each would.
+    /// Observes elements in order, as [`observe_algebra_element`](FieldChallenger::observe_algebra_element) of each
+    /// does.
     ///
-    /// The one error is [`ChallengerError::OutOfMemory`]. The elements before the refused one are observed then, and of
-    /// that one what its observe leaves.
+    /// The one error is [`ChallengerError::OutOfMemory`]. After it the elements before the refused one are observed,
+    /// plus what the refused observation leaves.
     fn observe_algebra_slice<A: BasedVectorSpace<F>>(
         &mut self,
         elements: &[A],
@@ -50,8 +50,7 @@ pub trait FieldChallenger<F: Field>: CanObserve<F> + CanSample<F> + CanSampleBit
 
     /// Draws the coefficients of an element, coefficient 0 first.
     ///
-    /// The errors are those of [`CanSample::sample`]. After one, the draws before the one that was
-    /// refused are done.
+    /// The errors are those of [`CanSample::sample`]. After an error the draws before the refused one are done.
     fn sample_algebra_element<A: BasedVectorSpace<F>>(&mut self) -> Result<A, ChallengerError>
         ensures drawn { IfOk result (λ element.
             draws Self.sampling A.DIMENSION (Self.state self.old) ≡ Some (A.coefficients element)) }
@@ -67,8 +66,7 @@ pub trait FieldChallenger<F: Field>: CanObserve<F> + CanSample<F> + CanSampleBit
         Ok(element)
     }
 
-    /// Observes a value of the field as the element of an algebra that it is: the value is coefficient 0, and the
-    /// others are zeros.
+    /// Observes a value of the field as an element of an algebra: the value is coefficient 0, and the others are zeros.
     ///
     /// The one error is [`ChallengerError::OutOfMemory`]. It leaves what [`observe_slice`](CanObserve::observe_slice)
     /// of the coefficients leaves.

@@ -1,4 +1,4 @@
-//! A challenger through a reference is that challenger: each call is passed on.
+//! A reference to a challenger is a challenger: it forwards each call.
 
 use crate::{CanObserve, CanSample, CanSampleBits, ChallengerError, FieldChallenger, Sponge};
 use p3_field_core::Field;

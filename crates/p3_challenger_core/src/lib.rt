@@ -1,10 +1,10 @@
-//! What a challenger is: what a prover and a verifier say goes in, and their random challenges come
-//! out, the same for both.
+//! The traits of challengers: prover and verifier observe the same messages, and sample the same random
+//! challenges.
 //!
-//! The traits say what each challenger promises; the challengers themselves stand in crates of their
-//! own, each on this one.
+//! The traits say what each challenger promises. The challengers themselves are in crates that depend on
+//! this one.
 //!
-//! What is called a law is a function without effect whose contract a caller cites. The Rust crate has none.
+//! A law is a function without effect whose contract a caller cites. The Rust crate has none.
 #![tactic(auto)]
 
 mod arrays;

@@ -1,4 +1,4 @@
-//! A list of calls has one cut into segments.
+//! The law that a list of calls has one cut into segments.
 ghost use Rattle.std.specs.Prelude.{◌≡◌, List};
 ghost use Rattle.p3_challenger_core.specs.Segments.{Call, Segments, IsCutOf, segments};
 

@@ -16,12 +16,12 @@ wire_symbols-prefix_code r laws width fits symbols prefix_code x y a b e =
     (AreBytes-in_bytes width (r.number x)) (AreBytes-in_bytes width (r.number y)) same e in
     ((wire-prefix_code r laws width fits x y [] [] (ap (λ l. l ++ []) bytes.0)).0, bytes.1)
 
--- a list of some length has an element
+-- a list of positive length has an element
 some_of : {T : Type 0} (xs : List T) → 0 < length xs → IsNonEmpty xs
 some_of [] h = absurd (omega (arith, h))
 some_of (x ∷ xs) h = tt
 
--- the symbols of an element, where bytes are fed as a prefix code
+-- the symbols of an element determine it, where bytes are fed as a prefix code
 pub bytes-tell_apart : {F Symbol : Type 0} (r : Residues F) → IsResidues r → (bits : ℕ) → r.order < 2 ^ bits →
     (symbols : ℕ → List Symbol) → IsPrefixCodeOn IsByte symbols →
     IsPrefixFree (λ x. flat_map symbols (wire r (bytes_for bits) x))

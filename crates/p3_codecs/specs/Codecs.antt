@@ -1,10 +1,10 @@
--- What every codec owes.
+-- The obligations of every codec.
 use Rattle.std.specs.Prelude.{List}
 use Rattle.p3_challenger_core.specs.{Observation.{Observation, IsObservation}, Sampling.{Sampling, IsSampling}}
 use Rattle.p3_fs_core.specs.Encoding.{Encoding, IsEncoding}
 
--- Values are encoded, as a prefix code. What is observed is what is fed, and a refused value has fed a front of
--- it. A draw that meets the limit gives nothing, and each draw takes some number of the smallest ones.
+-- Values are encoded, as a prefix code. The symbols fed are those of the observation, and a refused value has
+-- fed a prefix of them. A draw that meets the limit gives nothing, and each draw is a number of smallest draws.
 pub record IsCodec {S Symbol T : Type 0} (fed : S → List Symbol → S) (next : S → S) (encoding : Encoding T)
     (observation : Observation S Symbol T) (sampling : Sampling S T) : Type 0 where
   pub encodes : IsEncoding encoding

@@ -1,4 +1,4 @@
--- An element of a vector space, coefficient by coefficient in the order of the basis.
+-- An element of a vector space, one coefficient after another in the order of the basis.
 use Rattle.std.specs.Prelude.{ℕ, zero, suc, ◌*◌, List, [], ◌∷◌, length, codes, nat_lt, flat_map, Result, Ok, Err}
 use Rattle.std.specs.Prelude.{if◌then◌else◌}
 use Rattle.p3_challenger_core.specs.{Observation.{Observation, observed_as}, Sampling.{Sampling, made_of}}
@@ -6,16 +6,16 @@ use Rattle.p3_fs_core.specs.Encoding.{Encoding}
 use Rattle.p3_challenger_core.specs.Observation as observation
 use Rattle.p3_challenger_core.specs.Sampling as sampling
 
--- why bytes begin with no element
+-- the reason where bytes are too few for an element
 abbrev pub not_enough_bytes : List ℕ
 not_enough_bytes = codes "not enough bytes for an extension-field encoding"
 
--- what comes of a value that is read, or why there is none
+-- the result for a value that is read, or the reason why there is none
 abbrev pub and_then : {A B E : Type 0} → (A → Result B E) → Result A E → Result B E
 and_then f (Ok x) = f x
 and_then f (Err reason) = Err reason
 
--- n coefficients in a row, and the bytes after them, or why the first that is none is none
+-- n coefficients in a row and the bytes after them, or the reason for the first invalid one
 unfoldable pub read_all : {F : Type 0} → (List ℕ → Result (F × List ℕ) (List ℕ)) → ℕ → List ℕ →
     Result (List F × List ℕ) (List ℕ)
 read_all read zero bytes = Ok ([], bytes)
@@ -26,7 +26,7 @@ abbrev pub read_coefficients : {F A : Type 0} → (List ℕ → Result (F × Lis
     Result (A × List ℕ) (List ℕ)
 read_coefficients base n element bytes = and_then (λ xs. Ok (element xs.0, xs.1)) (read_all base n bytes)
 
--- what is read at the head of bytes, where an element is made of n coefficients of this width
+-- the reading at the head of bytes, for an element of n coefficients of this width
 abbrev pub read : {F A : Type 0} → (List ℕ → Result (F × List ℕ) (List ℕ)) → ℕ → ℕ → (List F → A) → List ℕ →
     Result (A × List ℕ) (List ℕ)
 read base width n element bytes =
@@ -40,11 +40,11 @@ encoding base n coefficients element = record {
   read = read base.read base.width n element;
 }
 
--- it is observed as its coefficients
+-- an element is observed as its coefficients
 abbrev pub observed_coefficients : {S Symbol F A : Type 0} → Observation S Symbol F → (A → List F) →
     Observation S Symbol A
 observed_coefficients base coefficients = observed_as coefficients (observation.in_row base)
 
--- it is drawn as n coefficients, coefficient 0 first
+-- an element is drawn as n coefficients, coefficient 0 first
 abbrev pub drawn_coefficients : {S F A : Type 0} → Sampling S F → ℕ → (List F → A) → Sampling S A
 drawn_coefficients base n element = made_of element (sampling.in_row base n)

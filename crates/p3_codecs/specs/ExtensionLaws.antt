@@ -1,4 +1,4 @@
--- Laws of an element coefficient by coefficient.
+-- Laws of elements that are encoded one coefficient after another.
 use Rattle.std.proofs.Common.{◌≡◌, ℕ, zero, suc, ◌<◌, ◌≤◌, ◌+◌, ◌*◌, List, [], ◌∷◌, ◌++◌, length, nat_lt, if◌then◌else◌}
 use Rattle.std.proofs.Common.{Result, Ok, Err, refl, sym, ap, ◌∙◌, append_assoc, subst, drop, arith}
 use Rattle.std.{specs.List.flat_map, proofs.Math.Nat.zero-mul, proofs.lemmas.List.length-append}
@@ -8,7 +8,7 @@ use Rattle.p3_fs_core.specs.{Encoding.{Encoding, IsEncoding}, BigEndianLaws.{Are
 use Rattle.p3_fs_core.specs.ScalarLaws.{chosen, not_below, read-prefix_code}
 use Rattle.p3_codecs.specs.Extension.{and_then, read_all, read, encoding, not_enough_bytes}
 
--- what is read after a value that is read
+-- the result of reading after a value that is read
 bound : {A B E : Type 0} (f : A → Result B E) (o : Result A E) (y : B) → and_then f o ≡ Ok y → (x : A) × (o ≡ Ok x)
     × (f x ≡ Ok y)
 bound f (Ok x) y e = (x, refl, e)
@@ -17,7 +17,7 @@ bound f (Err reason) y e = cc
 -- ---- the wire
 
 module _ {F : Type 0} (base_wire : F → List ℕ) (width : ℕ) (fixed : (x : F) → length (base_wire x) ≡ width) where
-  -- coefficients take their width each
+  -- n coefficients take n times the width
   pub length-row : (xs : List F) → length (flat_map base_wire xs) ≡ length xs * width
   length-row [] = sym (zero-mul width)
   length-row (x ∷ xs) =
@@ -35,7 +35,7 @@ module _ {F : Type 0} (base_wire : F → List ℕ) (width : ℕ) (fixed : (x : F
 module _ {F : Type 0} (base_wire : F → List ℕ) (base_read : List ℕ → Result (F × List ℕ) (List ℕ)) (width : ℕ)
     (fixed : (x : F) → length (base_wire x) ≡ width) where
   module _ (reads_back : (x : F) (rest : List ℕ) → base_read (base_wire x ++ rest) ≡ Ok (x, rest)) where
-    -- coefficients that are encoded are read
+    -- encoded coefficients are read back
     pub read_all-row : (xs : List F) (rest : List ℕ) →
         read_all base_read (length xs) (flat_map base_wire xs ++ rest) ≡ Ok (xs, rest)
     unfolding read_all
@@ -50,7 +50,7 @@ module _ {F : Type 0} (base_wire : F → List ℕ) (base_read : List ℕ → Res
     module _ {A : Type 0} (n : ℕ) (coefficients : A → List F) (element : List F → A)
         (as_many : (x : A) → length (coefficients x) ≡ n) (same : (x y : A) → coefficients x ≡ coefficients y → x ≡ y)
         (of_element : (xs : List F) → length xs ≡ n → coefficients (element xs) ≡ xs) where
-      -- an element that is encoded is read
+      -- an encoded element is read back
       pub read-wire : (x : A) (rest : List ℕ) →
           read base_read width n element (flat_map base_wire (coefficients x) ++ rest) ≡ Ok (x, rest)
       read-wire x rest =
@@ -75,13 +75,13 @@ module _ {F : Type 0} (base_wire : F → List ℕ) (base_read : List ℕ → Res
 
   module _ (only_reads : (bytes : List ℕ) (x : F) (rest : List ℕ) → AreBytes bytes → base_read bytes ≡ Ok (x, rest) →
       bytes ≡ base_wire x ++ rest) where
-    -- what is after a coefficient that is read
+    -- the bytes after a coefficient that is read
     pub after_coefficient : (x : F) (bytes rest : List ℕ) → AreBytes bytes → base_read bytes ≡ Ok (x, rest) →
         rest ≡ drop width bytes
     after_coefficient x bytes rest are_bytes e =
         sym (ap (drop width) (only_reads bytes x rest are_bytes e) ∙ drop-front width (base_wire x) rest (fixed x))
 
-    -- coefficients that are read are encoded so
+    -- coefficients that are read have these bytes as their encoding
     pub read_all-only : (n : ℕ) (bytes : List ℕ) (xs : List F) (rest : List ℕ) → AreBytes bytes →
         read_all base_read n bytes ≡ Ok (xs, rest) → (length xs ≡ n) × (bytes ≡ flat_map base_wire xs ++ rest)
     unfolding read_all
@@ -113,7 +113,7 @@ module _ {F : Type 0} (base_wire : F → List ℕ) (base_read : List ℕ → Res
               ∙ ap (λ bs. flat_map base_wire xs ++ bs) end,
         )
 
-    -- an element that is read is encoded so
+    -- an element that is read has these bytes as its encoding
     pub read-only : {A : Type 0} (n : ℕ) (coefficients : A → List F) (element : List F → A) →
         ((xs : List F) → length xs ≡ n → coefficients (element xs) ≡ xs) → (bytes : List ℕ) (x : A) (rest : List ℕ) →
         AreBytes bytes → read base_read width n element bytes ≡ Ok (x, rest) →
@@ -131,7 +131,7 @@ module _ {F : Type 0} (base_wire : F → List ℕ) (base_read : List ℕ → Res
         ∙ ap (λ ys. flat_map base_wire ys ++ found.0.1) values
         ∙ ap (λ bs. flat_map base_wire (coefficients x) ++ bs) end
 
--- an element is encoded as its coefficients
+-- elements are encoded as their coefficients
 pub is_encoding : {F A : Type 0} (base : Encoding F) → IsEncoding base →
     (n : ℕ) (coefficients : A → List F) (element : List F → A) → ((x : A) → length (coefficients x) ≡ n) →
     ((x y : A) → coefficients x ≡ coefficients y → x ≡ y) →
@@ -162,7 +162,7 @@ some_of : {T : Type 0} (xs : List T) → 0 < length xs → IsNonEmpty xs
 some_of [] h = absurd (omega (arith, h))
 some_of (x ∷ xs) h = tt
 
--- the symbols of an element, where coefficients are fed as a prefix code
+-- the symbols of an element determine it, where coefficients are fed as a prefix code
 pub coefficients-tell_apart : {F A Symbol : Type 0} (symbols : F → List Symbol) → IsPrefixFree symbols → (n : ℕ) → 0 < n →
     (coefficients : A → List F) → ((x : A) → length (coefficients x) ≡ n) →
     ((x y : A) → coefficients x ≡ coefficients y → x ≡ y) → IsPrefixFree (λ x. flat_map symbols (coefficients x))

@@ -20,16 +20,17 @@ use p3_field_core::PrimeField64;
 use p3_fs_core::{TranscriptError, TranscriptField};
 use std::marker::PhantomData;
 
-/// A scalar through a challenger of bytes.
+/// Encodes, observes and draws a scalar through a challenger of bytes.
 ///
-/// Its encoding is that of [`TranscriptField`], and those bytes are observed as one slice. A draw takes
-/// [`EXTRA_BYTES`] bytes more than an encoding has, and is their big-endian number modulo the order.
+/// The encoding is that of [`TranscriptField`], and its bytes are observed as one slice. A draw takes
+/// [`EXTRA_BYTES`] bytes more than an encoding has. Their big-endian number modulo the order is the scalar.
 ///
-/// The Rust crate's `BytesToFieldCodec`, by the rule of the IETF draft on Fiat-Shamir: 16 bytes more.
+/// Corresponds to the Rust crate's `BytesToFieldCodec`. The 16 extra bytes are the rule of the IETF draft on
+/// Fiat-Shamir.
 pub struct BytesToFieldCodec<F>(PhantomData<F>);
 
-/// How many bytes a draw takes beyond the width of a value: 128 bits, so that the value is nearly uniform. It is the
-/// number of the IETF draft on Fiat-Shamir, and private in the Rust crate.
+/// The number of bytes that a draw takes beyond the width of a value: 128 bits, so that the value is nearly uniform.
+/// The number is that of the IETF draft on Fiat-Shamir. It is private in the Rust crate.
 pub const EXTRA_BYTES: usize = 16;
 
 // The most bytes that a draw takes: an encoding has at most 8.

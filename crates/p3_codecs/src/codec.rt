@@ -1,4 +1,4 @@
-//! What a codec owes: how a value is encoded in the proof, how a challenger observes it, and how it is drawn.
+//! The obligations of a codec: the encoding of a value in the proof, its observation by a challenger, and its draw.
 ghost use Rattle.std.specs.Prelude.{◌≡◌, ℕ, ◌<◌, ◌≤◌, List, ◌++◌, take, drop, length, Some, Ok, Err, OnOk, OnErr, IfOk};
 ghost use Rattle.std.specs.Prelude.{IfErr};
 ghost use Rattle.p3_challenger_core.specs.{Observation.{Observation, RefusesObserve}, Sampling.{Sampling, RefusesDraw}};
@@ -9,20 +9,20 @@ ghost use Rattle.p3_codecs.specs.Codecs.{IsCodec};
 use p3_challenger_core::{ChallengerError, Sponge};
 use p3_fs_core::TranscriptError;
 
-/// How many bits of security a codec must have before a challenge is drawn through it: 128, as section 6 of the IETF
-/// draft on Fiat-Shamir has it. The Rust crate's constant of this name.
+/// The bits of security that a codec must have for a draw of challenges: 128, as in section 6 of the IETF draft on
+/// Fiat-Shamir. It is the Rust crate's constant of this name.
 pub const MIN_CHALLENGE_SECURITY_BITS: u32 = 128;
 
 // The condition of a draw names this number, so that it is the same whatever the constant says.
 const _: () = prove!(MIN_CHALLENGE_SECURITY_BITS == 128);
 
-/// How the values of a type become symbols of a challenger, are drawn from it, and are encoded in the
-/// proof: each value has one encoding, and all encodings have one width.
+/// Encodes the values of a type in the proof, observes them as symbols of a challenger, and draws them from it. Each
+/// value has one encoding, and all encodings have one width.
 ///
-/// The Rust crate's `Codec`. Here the challenger is a [`Sponge`], and a codec owes its laws.
+/// Corresponds to the Rust crate's `Codec`. Here the challenger is a [`Sponge`], and a codec has laws to satisfy.
 pub trait Codec<C: Sponge, T> {
-    /// How near to uniform a draw is, in bits: its distance is at most 2 to the minus this, beside the
-    /// challenger's own. It is the word of who writes the codec.
+    /// The security of a draw in bits: its distance from uniform is at most 2 to the minus this number, apart from
+    /// the challenger's own. The author of the codec vouches for it.
     const SECURITY_BITS: u32;
 
     ghost SECURITY_BITS: { ℕ };
@@ -40,14 +40,14 @@ pub trait Codec<C: Sponge, T> {
     // What a draw gives, the state after it, and when it is refused and what it leaves then.
     ghost sampling: { Sampling C.State T };
 
-    /// How many bytes a value takes in the proof, the same for each.
+    /// Returns the number of bytes of a value in the proof, the same for each value.
     fn wire_len() -> usize
         ensures { result ≡ encoding.width };
 
     /// Observes a value.
     ///
-    /// The one error is [`ChallengerError::OutOfMemory`]. After it a beginning of the value may be observed:
-    /// of a scalar what one refused observe of the challenger leaves, and of an element of a vector space
+    /// The one error is [`ChallengerError::OutOfMemory`], after which a prefix of the value may be observed. Of a
+    /// scalar, that is what one refused observation of the challenger leaves. Of an element of a vector space, it is
     /// the coefficients before the refused one.
     fn observe(challenger: &mut C, value: &T) -> Result<(), ChallengerError>
         ensures ok { OnOk result
@@ -55,8 +55,8 @@ pub trait Codec<C: Sponge, T> {
         ensures err { IfErr result (λ e. RefusesObserve (observation.may_leave
             (C.state challenger.old) value.now) e (C.state challenger.new)) };
 
-    /// Draws a value. The codec has at least [`MIN_CHALLENGE_SECURITY_BITS`] of security, which is the caller's word
-    /// in the Rust crate.
+    /// Draws a value. The codec has at least [`MIN_CHALLENGE_SECURITY_BITS`] bits of security, for which the caller
+    /// vouches in the Rust crate.
     ///
     /// The errors are those of the challenger's draws: [`ChallengerError::DrawLimit`], after which the draws are
     /// consumed, and [`ChallengerError::OutOfMemory`]. The draws before the refused one are done.
@@ -68,20 +68,21 @@ pub trait Codec<C: Sponge, T> {
         ensures err { IfErr result
             (λ e. RefusesDraw sampling e (C.state challenger.old) (C.state challenger.new)) };
 
-    /// Adds the encoding of a value at the end of `out`.
+    /// Appends the encoding of a value to `out`.
     ///
-    /// The one error is [`TranscriptError::OutOfMemory`], which leaves a beginning of it added. It answers no error
-    /// in the Rust crate.
+    /// The one error is [`TranscriptError::OutOfMemory`], which leaves a prefix of the encoding appended. In the
+    /// Rust crate this function returns no error.
     fn encode(value: &T, out: &mut Vec<u8>) -> Result<(), TranscriptError>
         ensures ok { OnOk result (out.new.items ≡ out.old.items ++ encoding.wire value.now) }
         ensures err { IfErr result (λ e. e ≡ TranscriptError.OutOfMemory) }
         ensures left { OnErr result
             ((n : ℕ) × (out.new.items ≡ out.old.items ++ take n (encoding.wire value.now))) };
 
-    /// The value whose encoding `bytes` begin with: their first [`wire_len`](Codec::wire_len) bytes.
+    /// Returns the value whose encoding stands at the head of `bytes`, in the first [`wire_len`](Codec::wire_len)
+    /// bytes.
     ///
-    /// The one error is [`TranscriptError::BadProofShape`], where they begin with no encoding; its reason is
-    /// the codec's own.
+    /// The one error is [`TranscriptError::BadProofShape`], where no encoding stands there. The reason is the
+    /// codec's own.
     fn decode(bytes: &[u8]) -> Result<T, TranscriptError>
         ensures exact { Decodes (encoding.read bytes.now) result }
         ensures found { IfOk result
@@ -95,9 +96,9 @@ pub trait Codec<C: Sponge, T> {
     ghost symbols_are_prefix_code: { feeds_prefix_code → IsPrefixFree observation.symbols };
 }
 
-/// A codec of the elements of a field. An encoding has at least one byte, and at most 65535, so that an element of
-/// a vector space, of at most 65535 coefficients, has a width that is a `usize`. Where there are so many bytes,
-/// the one reason for none of them is `field encoding outside canonical range`.
+/// A codec of the elements of a field. An encoding has 1 to 65535 bytes. So the width of an element of a vector
+/// space with at most 65535 coefficients is a `usize`. Where there are enough bytes, the only reason for a refusal
+/// is `field encoding outside canonical range`.
 ///
 /// Not in the Rust crate.
 pub trait ScalarCodec<C: Sponge, F>: Codec<C, F> {

@@ -1,5 +1,4 @@
-//! The codec of an element of a vector space: each coefficient in turn through a codec of the field, coefficient 0
-//! first.
+//! The codec of an element of a vector space: its coefficients, coefficient 0 first, through a codec of the field.
 ghost use Rattle.std.specs.Prelude.{◌*◌, ◌≤◌, length};
 ghost use Rattle.p3_fs_core.specs.Errors.{Decodes};
 ghost use Rattle.p3_challenger_core.specs.ObservationLaws.{in_row-is_observation, observed_as-is_observation};
@@ -15,13 +14,13 @@ use p3_field_core::{BasedVectorSpace, Field};
 use p3_fs_core::TranscriptError;
 use std::marker::PhantomData;
 
-/// An element of a vector space through the codec of its coefficients, in the order of the basis.
+/// Encodes, observes and draws an element of a vector space by its coefficients, in the order of the basis.
 ///
-/// Its encoding is that of the coefficients one after another. A draw draws coefficient 0 first. `decode`
-/// answers `not enough bytes for an extension-field encoding` where there are not enough for all of them,
-/// before any is read, and else the base codec's reason for the first coefficient that is none.
+/// The encoding is that of the coefficients, one after another. A draw begins with coefficient 0. `decode` returns
+/// `not enough bytes for an extension-field encoding` where there are too few bytes for all coefficients, before
+/// any is read. Else its reason is the base codec's for the first invalid coefficient.
 ///
-/// The Rust crate's `ExtensionFieldCodec`, here over a [`ScalarCodec`] and for every vector space.
+/// Corresponds to the Rust crate's `ExtensionFieldCodec`, here over a [`ScalarCodec`] and for every vector space.
 pub struct ExtensionFieldCodec<F, EF, BaseCodec>(PhantomData<(F, EF, BaseCodec)>);
 
 impl<C: Sponge, F: Field, EF: BasedVectorSpace<F>, BaseCodec: ScalarCodec<C, F>> Codec<C, EF>

@@ -1,15 +1,15 @@
-//! The codec of a scalar through a challenger of its own field: the scalar itself is observed and drawn.
+//! The codec of a scalar through a challenger of its own field.
 use crate::{Codec, ScalarCodec};
 use p3_challenger_core::{CanObserve, CanSample, ChallengerError};
 use p3_field_core::PrimeField64;
 use p3_fs_core::{TranscriptError, TranscriptField};
 use std::marker::PhantomData;
 
-/// A scalar through a challenger of the field's own elements: it is observed and drawn as it is.
+/// Observes and draws a scalar as an element of the challenger's own field.
 ///
 /// Its encoding in the proof is that of [`TranscriptField`].
 ///
-/// The Rust crate's `FieldToFieldCodec`.
+/// Corresponds to the Rust crate's `FieldToFieldCodec`.
 pub struct FieldToFieldCodec<F>(PhantomData<F>);
 
 impl<F: PrimeField64, C: CanObserve<F> + CanSample<F>> Codec<C, F> for FieldToFieldCodec<F> {

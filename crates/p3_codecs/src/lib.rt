@@ -1,9 +1,9 @@
-//! How values become symbols for the sponge and bytes in the proof: the alphabets and the codecs.
+//! Alphabets and codecs, which turn values into symbols for the sponge and into bytes of the proof.
 //!
-//! The rule of a draw from bytes, and how many bits of security a draw must have, are those of the IETF draft on
-//! Fiat-Shamir (draft-irtf-cfrg-fiat-shamir), which the Rust crate follows.
+//! The rule of a draw from bytes and its bits of security are those of the IETF draft on Fiat-Shamir
+//! (draft-irtf-cfrg-fiat-shamir). The Rust crate follows the draft too.
 //!
-//! What is called a law is a function without effect whose contract a caller cites. The Rust crate has none.
+//! A law is a function without effect whose contract a caller cites. The Rust crate has none.
 #![tactic(auto)]
 
 mod bytes_to_field;

@@ -1,5 +1,5 @@
-//! The alphabets: what a byte string is to a challenger. To one of bytes it is those bytes; to one of a field it is its
-//! length and then elements, each of as many bytes as are sure to be below the order.
+//! The alphabets: how a challenger observes a byte string. In the byte alphabet the string is its bytes. In that of a
+//! field it is its length followed by elements, each of as many bytes as are sure to be below the order.
 ghost use Rattle.std.specs.Prelude.{◌≡◌, ℕ, ◌<◌, ◌≤◌, List, ◌++◌, length, flat_map, OnOk, IfErr};
 ghost use Rattle.p3_challenger_core.specs.{Observation.{observed_all, LeavesInCalls, RefusesObserve}, Sponge.IsFed};
 ghost use Rattle.p3_challenger_core.specs.Reading.{AreBytes, IsByte, OneBegins, IsPrefixCodeOn};
@@ -12,14 +12,14 @@ use p3_field_core::PrimeField64;
 use p3_fs_core::TranscriptField;
 use std::marker::PhantomData;
 
-/// An alphabet of a sponge: how a byte string becomes its symbols.
+/// An alphabet of a sponge: it turns byte strings into symbols.
 ///
-/// It owes that byte strings which begin one list of items begin one another: so those of one length, and
-/// those of which none begins another, are told apart.
+/// Its law: of two byte strings whose items begin one list, one begins the other. So strings of one length have
+/// different items, and so do strings of which none begins another.
 ///
-/// The Rust crate's `Unit`, which is one call.
+/// Corresponds to the Rust crate's `Unit`, which has a single function.
 pub trait Unit {
-    /// What the sponge observes.
+    /// The type that the sponge observes.
     type Item;
 
     // The condition under which this is an alphabet.
@@ -33,12 +33,12 @@ pub trait Unit {
     // What is an item: a number is a byte only where it is below 256.
     ghost is_item: { Self.Item → Type 0 };
 
-    /// Observes a byte string. Condition: this is an alphabet, which `u8` always is, and [`FieldUnit`] where its
+    /// Observes a byte string. Condition: this is an alphabet. `u8` always is one, and [`FieldUnit`] is one where its
     /// field has more than 256 elements.
     ///
-    /// The errors are [`ChallengerError::TooLong`], with nothing absorbed, and [`ChallengerError::OutOfMemory`],
-    /// which leaves what the refused observe of the challenger leaves, and the items before it observed. The Rust
-    /// crate panics where it is too long.
+    /// The errors are [`ChallengerError::TooLong`], with nothing absorbed, and [`ChallengerError::OutOfMemory`]. The
+    /// latter leaves the items before the refused one observed, plus what the refused observation leaves. The Rust
+    /// crate panics where the string is too long.
     fn observe_bytes<C: CanObserve<Self::Item>>(
         challenger: &mut C,
         bytes: &[u8],
@@ -105,13 +105,13 @@ impl Unit for u8 {
     }
 }
 
-/// The alphabet of a sponge of field elements, of a field of more than 256 elements.
+/// The alphabet of a sponge over a field of more than 256 elements.
 ///
-/// A byte string is its length, and then its bytes in chunks of `(bits - 1) / 8` bytes, `bits` being the bit length
-/// of the order: so many bytes are surely a number below it. A chunk is that number, the lowest byte first; the last
-/// one may be shorter. A length that is not below the order is too long.
+/// A byte string becomes its length, followed by its bytes in chunks. A chunk has `(bits - 1) / 8` bytes, so that its
+/// number is below the order. Here `bits` is the bit length of the order. The number of a chunk has its lowest byte
+/// first; the last chunk may be shorter. A length that is not below the order is too long.
 ///
-/// The Rust crate's `FieldUnit`.
+/// Corresponds to the Rust crate's `FieldUnit`.
 #[derive(Clone, Copy, Debug, Default, PartialEq, Eq, PartialOrd, Ord, Hash)]
 pub struct FieldUnit<F>(PhantomData<F>);
 
@@ -161,7 +161,7 @@ impl<F: PrimeField64> Unit for FieldUnit<F> {
     }
 }
 
-/// An alphabet as the challenger `C` observes it. Every alphabet has it, so that no function needs the bound.
+/// An alphabet as the challenger `C` observes it. Every alphabet implements this trait, so no function needs the bound.
 ///
 /// Not in the Rust crate.
 pub trait AlphabetOf<C: CanObserve<Self::Item>>: Unit {
@@ -172,9 +172,9 @@ impl<U: Unit, C: CanObserve<U::Item>> AlphabetOf<C> for U {
     ghost alphabet = { alphabet_of U.items U.is_too_long C.observation C.slice_may_leave };
 }
 
-/// Byte strings are told apart by their symbols, in every alphabet and for every challenger that feeds its items
-/// as a prefix code: where the symbols of two, with anything after them, are equal, one string begins the other; and
-/// if the strings are equal, so is what stands after them.
+/// Symbols determine byte strings, in every alphabet and for every challenger that feeds its items as a prefix code. If
+/// the symbols of two strings, with anything after them, are equal, one string begins the other. If the strings are
+/// equal, so is what follows them.
 ///
 /// A law: the body is empty, and a caller cites the clause.
 pub fn symbols_begin<U: Unit, C: CanObserve<U::Item>>()

@@ -1,4 +1,4 @@
--- What a table gives: digests, and each of them stands in it.
+-- Laws of tables: each value of a table is a digest, and stands in the table.
 use Rattle.std.specs.Prelude.{◌≡◌, ℕ, zero, suc, ◌<◌, ◌==◌, ◌&&◌, ◌⊎◌, IsTrue, List, [], ◌∷◌, Some, bytes_eq, length, nat_lt, slice_index, unwrap_or, refl}
 use Rattle.std.proofs.Common.{lit<, inl, inr}
 use Rattle.std.proofs.lemmas.Bool.{and_parts, cond_both, eqb-true, ltb-true}
@@ -24,7 +24,7 @@ digest_by-is_digest (line ∷ lines) other text are is =
     cond_both (bytes_eq line.text text) (Some line.digest) (found lines text) (λ o. IsDigest (unwrap_or o other))
     (λ _. bytes-digest line.digest parts.0) (λ _. digest_by-is_digest lines other text parts.1 is)
 
--- a digest by a table is the other one, or it stands in the table
+-- a digest by a table is the other digest, or it stands in the table
 pub digest_by-cases : (lines : List Line) (other text : List ℕ)
     → (digest_by lines other text ≡ other) ⊎ IsGiven lines (digest_by lines other text)
 digest_by-cases [] other text = inl refl

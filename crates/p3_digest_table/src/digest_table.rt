@@ -4,12 +4,12 @@ ghost use Rattle.p3_digest_table.specs.Tables.{Line, are_digests, line_of};
 
 use crate::KnownDigest;
 
-/// A table of texts with their digests, which its type alone gives.
+/// A table of texts with their digests, determined by its type alone.
 pub trait DigestTable {
     // The lines of the table.
     ghost lines: { List Line };
 
-    /// The lines of the table. Where several have one text, the first of them counts.
+    /// Returns the lines of the table. Of several lines with one text, the first counts.
     fn lines() -> &'static [KnownDigest]
         ensures { map line_of result.now ≡ lines };
 

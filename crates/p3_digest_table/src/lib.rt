@@ -1,5 +1,5 @@
-//! A hash function of bytes with a table of digests before it: what stands in the table has the digest that the table
-//! says, and everything else the digest of another hash function.
+//! A hash function of bytes with a table of digests before it. A text in the table has the digest given there, and
+//! any other text that of another hash function.
 //!
 //! So a program can use the digests that another one gives to the identities of algebras, where their texts differ.
 #![tactic(auto)]

@@ -1,4 +1,4 @@
-//! Digests from a table, and from a hash function where the table has none.
+//! Digests from a table, and from a hash function for texts that the table does not have.
 ghost use Rattle.std.specs.Prelude.{◌≡◌, ◌⊎◌, ℕ, List, map};
 ghost use Rattle.p3_digest_table.specs.Tables.{found, digest_by, line_of, IsGiven};
 ghost use Rattle.p3_digest_table.specs.TableLaws.{digest_by-is_digest};
@@ -7,13 +7,13 @@ use crate::{DigestTable, KnownDigest};
 use p3_symmetric::DigestHasher;
 use std::marker::PhantomData;
 
-/// A hash function of bytes that its type alone gives: the digest of a text is the one that the table `T` has for it,
-/// and where the table has none, that of the hash function `H`. It takes no memory.
+/// A hash function of bytes, determined by its type alone. The digest of a text is that of the table `T` if the table
+/// has one, and else that of the hash function `H`. A digest takes no memory.
 ///
-/// It is for texts that another program writes otherwise, while what they digest to there is known: the digests of
-/// the identities of algebras. Two texts with one digest are two that `H` takes to one, or this digest is one of the
-/// table's ([`shared_digests`]). So for a table to cost nothing, its digests must be different ones, and none of them
-/// the digest under `H` of another text that is hashed.
+/// It serves texts that another program writes differently and whose digests there are known: the digests of the
+/// identities of algebras. Two texts share a digest only if `H` maps both to one, or if this digest is one of the
+/// table's ([`shared_digests`]). So a table does no harm if its digests are distinct, and none of them is the digest
+/// under `H` of another hashed text.
 ///
 /// Not in the Rust crate.
 pub struct TabledHasher<T, H>(PhantomData<(T, H)>);
@@ -33,8 +33,8 @@ impl<T: DigestTable, H: DigestHasher> DigestHasher for TabledHasher<T, H> {
     }
 }
 
-/// Two texts that have one digest by a table and a hash function have one under the hash function alone, or their
-/// digest is one that the table gives.
+/// Two texts may share a digest by a table and a hash function. Then they share one under the hash function alone, or
+/// their digest is one of the table's.
 ///
 /// A law: the body is empty, and a caller cites the clause.
 pub fn shared_digests<T: DigestTable, H: DigestHasher>()

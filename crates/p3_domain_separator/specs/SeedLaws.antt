@@ -1,4 +1,4 @@
--- Laws of what binds a transcript.
+-- Laws of seeds and their parts.
 use Rattle.std.proofs.Common.{◌≡◌, ℕ, zero, suc, ◌≤◌, ◌-◌, List, [], ◌∷◌, ◌++◌, length, drop, replicate, refl}
 use Rattle.std.{proofs.Common.{sym, ap, ◌∙◌, append_assoc, arith}, specs.List.All, proofs.lemmas.Grind.flat_map-append}
 use Rattle.std.proofs.lemmas.List.{append-nil, length-append, length-replicate}
@@ -20,7 +20,7 @@ counted_prefix_code x y a b x_fits y_fits e =
 
 -- ---- labels
 
--- a label comes from one list of chunks
+-- a label determines its list of chunks
 pub label_injective : (x y : List (List ℕ)) → All FitsCount x → All FitsCount y → label_of x ≡ label_of y → x ≡ y
 label_injective [] [] x_fit y_fit e = refl
 label_injective [] (y ∷ ys) x_fit y_fit e = cc
@@ -32,7 +32,7 @@ label_injective (x ∷ xs) (y ∷ ys) x_fit y_fit e =
     (λ k d less. y_fit (suc k) d (omega (arith, less))) first.1 in
     cc (first.0, others)
 
--- a chunk more stands at the end of the label
+-- an added chunk stands at the end of the label
 label_more : (chunks : List (List ℕ)) (chunk : List ℕ) →
     label_of (chunks ++ (chunk ∷ [])) ≡ label_of chunks ++ counted chunk
 label_more chunks chunk =
@@ -60,7 +60,7 @@ seed_prefix_code x y a b x_are y_are e =
 
 -- ---- identifiers
 
--- the length of a name stands in the last place
+-- the last byte of an identifier is the length of the name
 last_of : (name : List ℕ) → length name ≤ 62 → drop 62 (name ++ (replicate (62 - length name) 0 ++ (length name ∷ [])))
     ≡ length name ∷ []
 last_of name short =
@@ -70,7 +70,7 @@ last_of name short =
     ap (drop 62) (sym (append_assoc name zeros (length name ∷ [])))
     ∙ drop-front 62 (name ++ zeros) (length name ∷ []) as_long
 
--- an identifier comes from one version and one name
+-- an identifier determines its version and its name
 pub identifier_injective : (v w : ℕ) (a b : List ℕ) → length a ≤ 62 → length b ≤ 62 → identifier v a ≡ identifier w b →
     (v ≡ w) × (a ≡ b)
 identifier_injective v w a b a_short b_short e =

@@ -1,4 +1,4 @@
--- Laws of what a separator is made of: its bytes come from one version, one name and one list of chunks.
+-- Laws of separators: the bytes of one determine its version, its name and its list of chunks.
 use Rattle.std.{specs.Prelude.{◌≡◌, ℕ, ◌≤◌, ◌<◌, List, [], ◌∷◌, ◌++◌, length}, proofs.Common.{sym, subst, ◌∙◌}}
 use Rattle.std.{specs.{Coded.{le_prop, Coded-set, coded_list, coded_ℕ}, List.All}, proofs.lemmas.List.Elements.All-push}
 use Rattle.p3_challenger_core.specs.Reading.{AreBytes}
@@ -6,7 +6,7 @@ use Rattle.p3_fs_core.specs.StepFitLaws.{AreBytes-prop}
 use Rattle.p3_domain_separator.specs.{Seed.{identifier, counted, label_of, FitsCount}, SeedLaws.identifier_injective}
 use Rattle.p3_domain_separator.specs.{SeedLaws.{label_injective, chunk_added}, Separators.{IsIdentifier, IsLabel}}
 
--- that bytes are equal has one proof
+-- equality of bytes has at most one proof
 bytes-prop : (xs ys : List ℕ) → IsProp (xs ≡ ys)
 bytes-prop xs ys = Coded-set (coded_list coded_ℕ) xs ys
 
@@ -18,7 +18,7 @@ FitsCount-prop bytes = le_prop
 
 -- ---- identifiers
 
--- that bytes are an identifier has one proof
+-- that bytes are an identifier has at most one proof
 pub IsIdentifier-prop : (protocol_id : List ℕ) → IsProp (IsIdentifier protocol_id)
 IsIdentifier-prop protocol_id x y =
     let parts = identifier_injective x.version y.version x.name y.name x.short y.short (sym x.encoded ∙ y.encoded) in
@@ -47,12 +47,12 @@ IsIdentifier-prop protocol_id x y =
 
 -- ---- labels
 
--- a label is that of its chunks alone
+-- a label determines its chunks
 pub only_chunks : (label : List ℕ) (is : IsLabel label) (chunks : List (List ℕ)) → All FitsCount chunks →
     label ≡ label_of chunks → is.chunks ≡ chunks
 only_chunks label is chunks fit encoded = label_injective is.chunks chunks is.counted fit (sym is.encoded ∙ encoded)
 
--- that bytes are a label has one proof
+-- that bytes are a label has at most one proof
 pub IsLabel-prop : (label : List ℕ) → IsProp (IsLabel label)
 IsLabel-prop label x y =
     let Same : List (List ℕ) → Type 0 = λ (chunks : List (List ℕ)).
@@ -66,7 +66,7 @@ IsLabel-prop label x y =
     } in
     subst Same (only_chunks label x y.chunks y.counted y.encoded) own y.encoded y.counted y.bytes
 
--- a label with a chunk more
+-- the label with one more chunk
 pub IsLabel-more : (label chunk grown : List ℕ) → IsLabel label → FitsCount chunk → AreBytes chunk →
     grown ≡ label ++ counted chunk → IsLabel grown
 IsLabel-more label chunk grown is fits bytes more =

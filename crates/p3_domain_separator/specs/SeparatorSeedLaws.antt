@@ -1,4 +1,4 @@
--- The seed of a separator is that of an identifier, a digest and a label, each of them bytes.
+-- A separator's seed consists of an identifier, a digest and a label, and each of them is bytes.
 use Rattle.std.proofs.Common.{◌≡◌, ℕ, zero, suc, ◌-◌, ◌<◌, ◌≤◌, List, [], ◌∷◌, ◌++◌, length, replicate, sym, ap, ◌∙◌}
 use Rattle.std.{proofs.{Common.{subst, arith, lit<}, lemmas.List.{length-append, length-replicate}}, specs.List.All}
 use Rattle.p3_challenger_core.specs.Reading.{AreBytes}

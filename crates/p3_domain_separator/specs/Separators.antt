@@ -1,10 +1,10 @@
--- What a separator is made of.
+-- The parts of a separator.
 use Rattle.std.specs.{Prelude.{◌≡◌, ℕ, ◌≤◌, ◌<◌, List, length}, List.All}
 use Rattle.p3_challenger_core.specs.Reading.{AreBytes}
 use Rattle.p3_patterns.specs.PatternSteps.{PatternSteps}
 use Rattle.p3_domain_separator.specs.Seed.{identifier, label_of, FitsCount}
 
--- the bytes are the identifier of a protocol: of a version, and a name of 1 to 62 bytes
+-- the bytes are the identifier of a protocol, with a version and a name of 1 to 62 bytes
 pub record IsIdentifier (protocol_id : List ℕ) : Type 0 where
   pub version : ℕ
   pub name : List ℕ
@@ -14,14 +14,14 @@ pub record IsIdentifier (protocol_id : List ℕ) : Type 0 where
   pub short : length name ≤ 62
   pub bytes : AreBytes name
 
--- the bytes are the label of an instance: that of chunks whose lengths fit in four bytes
+-- the bytes are the label of an instance, whose chunks have lengths that fit in four bytes
 pub record IsLabel (label : List ℕ) : Type 0 where
   pub chunks : List (List ℕ)
   pub encoded : label ≡ label_of chunks
   pub counted : All FitsCount chunks
   pub bytes : All AreBytes chunks
 
--- what a separator is: the version and the name of a protocol, the chunks of an instance's label, and a pattern
+-- a separator: the version and the name of a protocol, the chunks of an instance's label, and a pattern
 pub record Separator : Type 0 where
   pub version : ℕ
   pub name : List ℕ

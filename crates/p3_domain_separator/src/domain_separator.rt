@@ -1,4 +1,4 @@
-//! What binds a transcript to a protocol, its pattern and the instance.
+//! The separator, which binds a transcript to a protocol, its pattern and the instance.
 //!
 //! ```text
 //! version and name of the protocol  ->  identifier -+
@@ -23,8 +23,8 @@ use std::alloc::{AllocError, Global};
 use std::marker::PhantomData;
 use std::rc::Rc;
 
-/// How many bytes the identifier of a protocol has: 64, as section 3 of the IETF draft on Fiat-Shamir has it. The
-/// Rust crate's constant of this name.
+/// The length of a protocol's identifier: 64 bytes, as in section 3 of the IETF draft on Fiat-Shamir. It is the Rust
+/// crate's constant of this name.
 pub const PROTOCOL_ID_LEN: usize = 64;
 
 // The last byte of a seed.
@@ -36,16 +36,15 @@ const COUNT_LEN: usize = 4;
 // The greatest length of a label: the greatest that fits in so many bytes.
 const MAX_LABEL_LEN: usize = u32::MAX as usize;
 
-/// What binds a transcript to a protocol, its pattern and the instance.
+/// Binds a transcript to a protocol, its pattern and the instance.
 ///
-/// `U` is the alphabet of the sponge, and `D` the hash function that the pattern's digest is made with.
+/// `U` is the alphabet of the sponge, and `D` the hash function for the pattern's digest.
 ///
-/// Contracts see what it is made of: the version and the name of the protocol, a name of 1 to 62 bytes; the chunks of
-/// the instance's label; and the pattern. The label is that of the chunks, and stays shorter than 2^32 bytes, so that
-/// its length can be written in four.
+/// Contracts see the parts: the version of the protocol, its name of 1 to 62 bytes, the chunks of the instance's
+/// label, and the pattern. The label stays shorter than 2^32 bytes, so that its length fits in four bytes.
 ///
-/// The Rust crate's `DomainSeparator`, which holds an `Arc`. Here the hash function of the pattern's digest is a
-/// parameter, and a separator is compared, and neither ordered nor hashed.
+/// The Rust crate's `DomainSeparator` holds an `Arc`. Here the hash function for the pattern's digest is a parameter.
+/// Separators can be compared for equality, but neither ordered nor hashed.
 #[derive(Drop)]
 #[derive_where(Debug, PartialEq, Eq)]
 pub struct DomainSeparator<U, D> {
@@ -54,9 +53,9 @@ pub struct DomainSeparator<U, D> {
     pattern: Rc<InteractionPattern>,
     alphabet: PhantomData<U>,
     hasher: PhantomData<D>,
-    /// It is the identifier of a version and a name.
+    /// The identifier is that of a version and a name.
     pub ghost is_identifier: { IsIdentifier protocol_id } by { IsIdentifier-prop protocol_id },
-    /// It is the label of chunks.
+    /// The label is that of chunks.
     pub ghost is_label: { IsLabel instance_label.items } by { IsLabel-prop instance_label.items },
     ghost label_fits: { length instance_label.items < 2 ^ 32 },
 }
@@ -64,12 +63,12 @@ pub struct DomainSeparator<U, D> {
 impl<U, D> DomainSeparator<U, D> {
     ghost use Rattle.p3_domain_separator.specs.SeparatorSeed.{separator_of};
 
-    /// A separator of the protocol with this version, name and pattern, for an instance with no label yet.
+    /// Returns a separator of the protocol with this version, name and pattern, for an instance with no label yet.
     ///
-    /// The identifier is the version, the name, zeros, and in the last place the length of the name.
+    /// The identifier consists of the version, the name, zeros, and in the last byte the length of the name.
     ///
-    /// Conditions: the name has 1 to 62 bytes. The one error is [`TranscriptError::OutOfMemory`]: the pattern is gone
-    /// then. The Rust crate panics on another name, and answers no error.
+    /// Conditions: the name has 1 to 62 bytes. The one error is [`TranscriptError::OutOfMemory`], after which the
+    /// pattern is dropped. The Rust crate panics on a name of another length, and returns no error.
     pub fn new(
         alloc: Global,
         version: u8,
@@ -91,34 +90,34 @@ impl<U, D> DomainSeparator<U, D> {
         })
     }
 
-    /// The identifier of the protocol, 64 bytes: its version, its name, zeros, and in the last place the length of
-    /// the name.
+    /// Returns the identifier of the protocol, 64 bytes: its version, its name, zeros, and in the last byte the
+    /// length of the name.
     pub fn protocol_id(&self) -> &[u8; PROTOCOL_ID_LEN]
         ensures { result.now ≡ self.now.protocol_id }
     {
         &self.protocol_id
     }
 
-    /// The label of the instance: each of its chunks after its length in four bytes, the highest first.
+    /// Returns the label of the instance: its chunks, each after its length in four bytes, highest first.
     pub fn instance_label(&self) -> &[u8]
         ensures { result.now ≡ self.now.instance_label.items }
     {
         self.instance_label.as_slice()
     }
 
-    /// The pattern of the protocol.
+    /// Returns the pattern of the protocol.
     pub fn pattern(&self) -> &Rc<InteractionPattern>
         ensures { result.now ≡ self.now.pattern }
     {
         &self.pattern
     }
 
-    /// Adds a chunk at the end of the instance's label, after its length in four bytes, the highest first.
-    /// So no two lists of chunks make one label.
+    /// Adds a chunk at the end of the instance's label, after its length in four bytes, highest first. So no two
+    /// lists of chunks have the same label.
     ///
     /// The errors are [`TranscriptError::LabelTooLong`], where the label would have 2^32 bytes or more, and
-    /// [`TranscriptError::OutOfMemory`]. Both leave the separator as it is. The Rust crate chains calls, panics on a
-    /// chunk of 2^32 bytes, and lets a label grow beyond that.
+    /// [`TranscriptError::OutOfMemory`]. Both leave the separator as it is. The Rust crate chains calls and panics on
+    /// a chunk of 2^32 bytes. It lets a label grow beyond that length.
     pub fn instance(&mut self, chunk: &[u8]) -> Result<(), TranscriptError>
         ensures ok { OnOk result
             (self.new.instance_label.items ≡ self.old.instance_label.items ++ counted chunk.now) }
@@ -143,8 +142,8 @@ impl<U, D> DomainSeparator<U, D> {
         Ok(())
     }
 
-    /// Two separators compare equal exactly where they are made of the same: one version, one name, the same chunks
-    /// and one pattern; that is, where they have one identifier, one label and the same steps.
+    /// Two separators compare equal exactly where they have the same version, name, chunks and pattern. This is the
+    /// case exactly where they have the same identifier, label and steps.
     ///
     /// A law: the body does nothing, and a caller cites the clause.
     pub fn compared_by_parts(&self, other: &Self)
@@ -158,9 +157,9 @@ impl<U, D> DomainSeparator<U, D> {
         InteractionPattern::compared_by_steps();
     }
 
-    /// An equal separator, which shares the pattern.
+    /// Returns an equal separator, which shares the pattern.
     ///
-    /// The one error is [`TranscriptError::OutOfMemory`]. The Rust crate's `Clone`, which answers no error.
+    /// The one error is [`TranscriptError::OutOfMemory`]. The Rust crate's `Clone` returns no error.
     pub fn clone(&self) -> Result<Self, TranscriptError>
         ensures ok { IfOk result (λ copy. separator_of copy ≡ separator_of self.now) }
         ensures err { IfErr result (λ e. e ≡ OutOfMemory) }
@@ -178,14 +177,15 @@ impl<U, D> DomainSeparator<U, D> {
 impl<U: Unit, D: DigestHasher> DomainSeparator<U, D> {
     ghost use Rattle.p3_domain_separator.specs.SeparatorSeed.{seed_parts, seed_of_separator};
 
-    /// Observes the seed in one byte string: the identifier, the digest of the pattern, the label after its
-    /// length in four bytes, the highest first, and a byte 0x80.
+    /// Observes the seed as one byte string. The seed is the identifier, the digest of the pattern, the label after
+    /// its length in four bytes, highest first, and a byte 0x80.
     ///
-    /// Conditions: `U` is an alphabet, as [`Unit::observe_bytes`] has it.
+    /// Conditions: `U` is an alphabet, in the sense of [`Unit::observe_bytes`].
     ///
     /// The errors are [`ChallengerError::TooLong`](p3_challenger_core::ChallengerError::TooLong) in
-    /// [`TranscriptError::Challenger`], with nothing absorbed, and [`TranscriptError::OutOfMemory`], which leaves the
-    /// challenger as it is, or as [`Unit::observe_bytes`] leaves it. It answers no error in the Rust crate.
+    /// [`TranscriptError::Challenger`], with nothing absorbed, and [`TranscriptError::OutOfMemory`]. The latter
+    /// leaves the challenger as it is, or as [`Unit::observe_bytes`] leaves it. In the Rust crate this function
+    /// returns no error.
     pub fn seed<C: CanObserve<U::Item>>(&self, challenger: &mut C) -> Result<(), TranscriptError>
         requires { U.is_alphabet }
         ensures ok { let seed = seed_of_separator D.digest_of self.now in
@@ -253,7 +253,7 @@ fn protocol_identifier(version: u8, name: &[u8]) -> [u8; PROTOCOL_ID_LEN]
     protocol_id
 }
 
-/// An identifier of a protocol comes from one version and one name.
+/// An identifier of a protocol determines its version and its name.
 ///
 /// A law: the body is empty, and a caller cites the clause.
 #[tactic(auto, using(crate::specs::SeedLaws::identifier_injective))]
@@ -262,7 +262,7 @@ pub fn identifiers_are_injective()
         identifier v a ≡ identifier w b → (v ≡ w) × (a ≡ b) }
 {}
 
-/// A label of an instance comes from one list of chunks.
+/// A label of an instance determines its list of chunks.
 ///
 /// A law: the body is empty, and a caller cites the clause.
 #[tactic(auto, using(crate::specs::SeedLaws::label_injective))]
@@ -271,7 +271,7 @@ pub fn labels_are_injective()
         x ≡ y }
 {}
 
-/// Whatever follows, a seed comes from one identifier, one digest and one label.
+/// A seed determines its identifier, its digest and its label, whatever follows it.
 ///
 /// A law: the body is empty, and a caller cites the clause.
 #[tactic(auto, using(crate::specs::SeedLaws::seed_prefix_code))]

@@ -1,6 +1,6 @@
-//! What binds a transcript to a protocol, its pattern and the instance.
+//! Domain separators, which bind a transcript to a protocol, its pattern and the instance.
 //!
-//! What is called a law is a function without effect whose contract a caller cites. The Rust crate has none.
+//! A law is a function without effect whose contract a caller cites. The Rust crate has none.
 #![tactic(auto)]
 
 mod domain_separator;

@@ -5,7 +5,8 @@ ghost use Rattle.p3_domain_separator.specs.declared.domain_separator.DomainSepar
 
 use p3_symmetric::DigestHasher;
 
-/// The seed of every separator is that of an identifier, a digest and a label, and a string of bytes.
+/// The seed of every separator consists of an identifier, a digest and a label, and is a string of
+/// bytes.
 ///
 /// A law: the body is empty, and a caller cites the clauses.
 pub fn separators_have_seeds<U, D: DigestHasher>()

@@ -1,4 +1,4 @@
--- Values that went through the transcript.
+-- Values that a transcript has bound.
 use Rattle.std.specs.Prelude.{List, Vec, map}
 use Rattle.p3_driver_core.specs.declared.bound.TranscriptBound.{TranscriptBound}
 

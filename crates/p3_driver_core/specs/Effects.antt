@@ -1,4 +1,4 @@
--- What a step of a transcript does to the challenger.
+-- The effect of a transcript's step on the challenger.
 use Rattle.std.specs.Prelude.{◌≡◌, ℕ, ◌⊎◌, List, [], ◌++◌, length, flat_map, Option, Some, Result, MatchResult}
 use Rattle.p3_challenger_core.specs.Sampling.{Sampling, RefusesDraw, RefusesDrawVec, draws, after_draws}
 use Rattle.p3_challenger_core.specs.Observation.{Observation, RefusesObserve}
@@ -6,8 +6,8 @@ use Rattle.p3_challenger_core.specs.declared.error.ChallengerError.{ChallengerEr
 use Rattle.p3_fs_core.specs.{Alphabet.{Alphabet, RefusesBytes, LeavesItems}, BigEndian.count_bytes}
 use Rattle.p3_challenger_core.specs.Observation as observation
 
--- What a step feeds, and that none of it is too long for the alphabet; what comes of it, which is none where a draw
--- meets its limit; the state after it; and, where an error refuses it, what is left of a state.
+-- The effect of a step: its symbols, which are not too long for the alphabet, its result, the state after it, and
+-- the state that a refusal leaves. The result is missing where a draw meets its limit.
 pub record Effect (S Symbol A : Type 0) : Type 1 where
   pub symbols : List Symbol
   pub fits : Type 0
@@ -15,8 +15,8 @@ pub record Effect (S Symbol A : Type 0) : Type 1 where
   pub after : S → S
   pub refuses : ChallengerError → S → S → Type 0
 
--- what feeds these symbols, which fit any alphabet; what comes of it, the state after it, and what is left of a state
--- where an error refuses it
+-- the effect that feeds these symbols, which fit any alphabet, with this result, state after it, and state after a
+-- refusal
 abbrev pub fitting : {S Symbol A : Type 0} → List Symbol → (S → Option A) → (S → S) →
     (ChallengerError → S → S → Type 0) → Effect S Symbol A
 fitting symbols gives after refuses =
@@ -50,11 +50,11 @@ observing_bytes a bytes = record {
 abbrev pub drawing : {S Symbol A : Type 0} → Sampling S A → Effect S Symbol A
 drawing d = fitting [] d.sampled d.after (λ e s t. RefusesDraw d e s t)
 
--- so many values are drawn one after another, and the memory for them is asked for first
+-- n values are drawn one after another, after memory for them is allocated
 abbrev pub drawing_list : {S Symbol A : Type 0} → Sampling S A → ℕ → Effect S Symbol (List A)
 drawing_list d n = fitting [] (draws d n) (after_draws d n) (λ e s t. RefusesDrawVec d n e s t)
 
--- one thing is done and then another, of which the answer is
+-- one effect after another, with the result of the second
 abbrev pub in_sequence : {S Symbol A B : Type 0} → Effect S Symbol A → Effect S Symbol B → Effect S Symbol B
 in_sequence first second = record {
   symbols = first.symbols ++ second.symbols;
@@ -64,10 +64,10 @@ in_sequence first second = record {
   refuses = λ e s t. first.refuses e s t ⊎ second.refuses e (first.after s) t;
 }
 
--- the count of so many values, of at most so many, is observed, and then the other thing is done
+-- the count of a list with a greatest length is observed, and then the other effect follows
 abbrev pub after_count : {S Symbol I A : Type 0} → Alphabet S Symbol I → ℕ → ℕ → Effect S Symbol A → Effect S Symbol A
 after_count alphabet max n effect = in_sequence (observing_bytes alphabet (count_bytes max n)) effect
 
--- a call has the effect, or is refused for an error
+-- a call has the effect, or an error refuses it
 abbrev pub Does : {S Symbol A R : Type 0} → Effect S Symbol A → S → Result R ChallengerError → S → Type 0
 Does effect s result t = MatchResult result (λ _. effect.fits × (t ≡ effect.after s)) (λ e. effect.refuses e s t)

@@ -1,4 +1,4 @@
--- Laws of what steps feed, and of what they draw.
+-- Laws of the symbols that steps feed, and of their draws.
 use Rattle.std.proofs.Common.{◌≡◌, ℕ, zero, suc, Bool, true, false, Option, Some, None, List, [], ◌∷◌, ◌++◌, length}
 use Rattle.std.proofs.Common.{refl, sym, ap, ◌∙◌, inl, inr, subst, append-nil, if◌then◌else◌, ◌⊎◌}
 use Rattle.std.{proofs.Math.Seq.take-length, specs.List.flat_map}
@@ -21,7 +21,7 @@ use Rattle.p3_challenger_core.specs.declared.error.ChallengerError.TheVariants a
 
 module _ {S Symbol : Type 0} (fed : S → List Symbol → S) (fed_nothing : (s : S) → fed s [] ≡ s)
     (fed_more : (s : S) (a b : List Symbol) → fed (fed s a) b ≡ fed s (a ++ b)) where
-  -- nothing is fed where nothing changes, also after a symbol
+  -- nothing is fed where nothing changes, even after a symbol
   unchanged-fed : (symbols : List Symbol) (s t : S) → t ≡ s → LeavesFed fed s symbols t
   unchanged-fed symbols s t is = (0, nothing-fed fed fed_nothing fed_more s t is)
 
@@ -50,7 +50,7 @@ module _ {S Symbol : Type 0} (fed : S → List Symbol → S) (fed_nothing : (s :
     value-leaves_after x challenger.OutOfMemory s y ys t h = laws.leaves_after s y ys x t h
     value-leaves_after x e s y ys t h = absurd h
 
-    -- a value that is observed
+    -- observing a value feeds its symbols
     pub observing-feeds : (x : T) → Feeds fed (observing o x)
     observing-feeds x = record {
       feeds = λ s. laws.observes s x;
@@ -59,7 +59,7 @@ module _ {S Symbol : Type 0} (fed : S → List Symbol → S) (fed_nothing : (s :
       leaves_after = value-leaves_after x;
     }
 
-  -- the values of a list
+  -- observing the values of a list feeds their symbols
   pub observing_list-feeds : {T : Type 0} (o : Observation S Symbol T) → IsObservation fed o → (xs : List T) →
       Feeds fed (observing_list o xs)
   observing_list-feeds o laws xs =
@@ -173,7 +173,7 @@ module _ {S Symbol : Type 0} (fed : S → List Symbol → S) (fed_nothing : (s :
 
   -- ---- steps as drivers play them
 
-  -- being out of memory leaves a state to which a front of the symbols was fed
+  -- out of memory leaves a state to which a prefix of the symbols was fed
   pub beginning-fed : {A : Type 0} (effect : Effect S Symbol A) → Feeds fed effect → (s t : S) →
       LeavesPart effect s t → LeavesFed fed s effect.symbols t
   beginning-fed effect is s t (inl none) = unchanged-fed effect.symbols s t none
@@ -183,13 +183,13 @@ module _ {S Symbol : Type 0} (fed : S → List Symbol → S) (fed_nothing : (s :
   beginning-fed effect is s t (inr (inr part)) = is.leaves challenger.OutOfMemory s t part
 
   module _ {A : Type 0} (m : Meaning S Symbol A) (is : Feeds fed m.effect) (before after : Transcript S) where
-    -- a step that is played has fed its symbols
+    -- a played step has fed its symbols
     pub played-fed : (x : A) → PlaysStep m before x after →
         IsFed fed before.challenger m.effect.symbols after.challenger
     played-fed x plays = subst (λ t. IsFed fed before.challenger m.effect.symbols t)
         (sym plays.challenger) (is.feeds before.challenger)
 
-    -- one that is refused, for whatever reason, has fed a front of them
+    -- a refused step has fed a prefix of its symbols, whatever the reason
     pub refused-fed : (e : TranscriptError) → RefusesStep m before e after →
         LeavesFed fed before.challenger m.effect.symbols after.challenger
     refused-fed (Pattern e) h = unchanged-fed m.effect.symbols before.challenger after.challenger h.challenger
@@ -215,11 +215,11 @@ module _ {S : Type 0} (next : S → S) where
     draw-leaves DrawLimit s t h = subst (λ u. IsStepsOn next s u) (sym h.1) (laws.steps s)
     draw-leaves e s t h = absurd h
 
-    -- a value that is drawn
+    -- drawing a value makes smallest draws only
     pub drawing-draws : {Symbol : Type 0} → OnlyDraws next (drawing {Symbol = Symbol} d)
     drawing-draws = record { no_symbols = refl; steps = laws.steps; leaves = draw-leaves }
 
-  -- so many values
+  -- drawing n values makes smallest draws only
   module _ {T : Type 0} (d : Sampling S T) (laws : IsSampling next d) (n : ℕ) where
     draws-leave : (e : ChallengerError) (s t : S) → RefusesDrawVec d n e s t → IsStepsOn next s t
     draws-leave e s t (inl h) = memory-steps e s t h
@@ -233,7 +233,7 @@ module _ {S : Type 0} (next : S → S) where
   -- ---- draws that a rule may refuse
 
   module _ {T : Type 0} (d : Sampling S T) (laws : IsSampling next d) (rule : Rule T) where
-    -- what comes after a value, or after none
+    -- what follows a value, or a missing one
     on-steps : {A B : Type 0} (rest : A → S → Outcome S B) (gives : Option A) (s here : S) → IsStepsOn next s here →
         ((x : A) → IsStepsOn next s (rest x here).after) → IsStepsOn next s (go_on rest gives here).after
     on-steps rest None s here reached goes = reached
@@ -288,7 +288,7 @@ module _ {S : Type 0} (next : S → S) where
     drawing_rejecting-draws limit n =
         record { no_symbols = refl; steps = keeps-steps limit n []; leaves = rejecting-leaves limit n }
 
-  -- being out of memory leaves a state after some number of the smallest draws
+  -- out of memory leaves a state after some number of smallest draws
   pub beginning-drawn : {Symbol A : Type 0} (effect : Effect S Symbol A) → OnlyDraws next effect → (s t : S) →
       LeavesPart effect s t → IsStepsOn next s t
   beginning-drawn effect is s t (inl none) = unchanged-steps s t none
@@ -297,7 +297,7 @@ module _ {S : Type 0} (next : S → S) where
 
   module _ {Symbol A : Type 0} (m : Meaning S Symbol A) (is : OnlyDraws next m.effect)
       (before after : Transcript S) where
-    -- a step that is refused, for whatever reason, has made some number of the smallest draws
+    -- a refused step has made some number of smallest draws, whatever the reason
     pub refused-drawn : (e : TranscriptError) → RefusesStep m before e after →
         IsStepsOn next before.challenger after.challenger
     refused-drawn (Pattern e) h = unchanged-steps before.challenger after.challenger h.challenger

@@ -1,11 +1,11 @@
--- Laws of draws that a rule may refuse: of the candidates drawn in a row, just the first accepted ones are kept.
+-- Laws of draws with a rule: of the candidates drawn in a row, exactly the first accepted ones are kept.
 use Rattle.std.proofs.Common.{◌≡◌, ℕ, zero, suc, ◌<◌, Bool, true, false, List, [], ◌∷◌, ◌++◌, length, Option, Some}
 use Rattle.std.proofs.Common.{refl, sym, ap, ◌∙◌, subst, append_assoc, append-nil, arith, if◌then◌else◌, ◌↔◌}
 use Rattle.std.{proofs.Common.{None, option_and_then}, specs.Option.option_map}
 use Rattle.p3_challenger_core.specs.Sampling.{Sampling, draws, after_draws}
 use Rattle.p3_driver_core.specs.Rejecting.{Rule, Outcome, given, go_on, taken, keeps, AreRefused, AreKept, KeepsFirst}
 
--- what is given, and the state after it, are told by the two together
+-- an outcome determines its value and the state after it
 given-same : {S A : Type 0} {x y : A} {s t : S} → given x s ≡ given y t → (x ≡ y) × (s ≡ t)
 given-same {S} {A} {x} {y} is =
     let both : ◌≡◌ {A = Option A} (Some x) (Some y) = ap (λ (o : Outcome S A). o.gives) is in
@@ -166,7 +166,7 @@ module _ {S T : Type 0} (d : Sampling S T) where
         let next = found-taken refused limit kept s x split.0 few refuses takes split.1 in
         rw (next, ← one-more kept x more) (kept-keeps more limit (kept ++ (x ∷ [])) rest split.0 t later split.2)
 
-    -- just the first accepted candidates are kept
+    -- exactly the first accepted candidates are kept
     pub keeps-first : (limit n : ℕ) (s t : S) (xs : List T) →
         (keeps d rule limit n [] s ≡ given xs t ↔ KeepsFirst d rule limit n s xs t)
     keeps-first limit n s t xs = (

@@ -1,4 +1,4 @@
--- Laws of the order in which steps are played.
+-- Laws of the order of steps.
 use Rattle.std.proofs.Common.{◌≡◌, ℕ, Bool, true, false, List, [], ◌∷◌, ◌++◌, length, Option, Some, inl, inr, refl}
 use Rattle.std.proofs.{Common.{sym, ap, ◌∙◌, append_assoc, slice_get, arith}, lemmas.List.length-append}
 use Rattle.std.proofs.lemmas.Option.{slice_get_within}
@@ -12,7 +12,7 @@ use Rattle.p3_driver_core.specs.{Transcripts.{IsNext, AreNext, RefusesPlayEnd}, 
 not_both : {b : Bool} → b ≡ true → b ≡ false → ⊥
 not_both on off = absurd (cc)
 
--- ---- a step that is next is not refused as one that is not
+-- ---- the next step is not refused as out of order
 
 next-is_next : (next : Option Step) (s : Step) (e : PatternError Step) → next ≡ Some s → IsNotNext next s e → ⊥
 next-is_next next s (NoMoreSteps received) is fault = absurd (cc)
@@ -27,7 +27,7 @@ next-not_refused before after s (Pattern e) is_next refuses = elim refuses.fault
 ]
 next-not_refused before after s e is_next refuses = refuses.fault
 
--- ---- once a step was refused, each is
+-- ---- once a step was refused, every step is
 
 finished-pattern_error : (e : PatternError Interaction) → pattern_error_of e ≡ Finished → e ≡ Finished
 finished-pattern_error Finished is = refl
@@ -58,7 +58,7 @@ played-pattern_error playing (Unplayed expected) played fault =
     none-left playing.pattern.steps playing.position expected played.end fault.1
 played-pattern_error playing e played fault = fault
 
--- a player whose steps are all played is not refused the end
+-- a player whose steps are all played is not refused at the end
 pub played-ends : (playing : Playing) (e : TranscriptError) → IsPlayed playing → RefusesPlayEnd playing e → ⊥
 played-ends playing (Pattern e) played fault = played-pattern_error playing (pattern_error_of e) played fault
 played-ends playing e played fault = fault
@@ -69,7 +69,7 @@ finished-end_pattern_error playing Finished finished fault = refl
 finished-end_pattern_error playing (Unplayed expected) finished fault = absurd (not_both finished fault.0)
 finished-end_pattern_error playing e finished fault = absurd fault
 
--- one of which a step was refused is refused the end as finished
+-- a player that has refused a step is refused at the end, as finished
 pub finished-ends : (playing : Playing) (e : TranscriptError) → playing.finished ≡ true →
     RefusesPlayEnd playing e → e ≡ Pattern Finished
 finished-ends playing (Pattern e) finished fault = ap Pattern (finished-end_pattern_error playing e finished fault)
@@ -82,7 +82,7 @@ get-at : {A : Type 0} (before : List A) (x : A) (after : List A) →
 get-at [] x after = refl
 get-at (y ∷ before) x after = get-at before x after
 
--- steps of a pattern are next where a player stands at the first of them
+-- steps of a pattern are the next ones where a player stands at the first of them
 pub listed-next : (steps before after : List Step) (playing : Playing) → playing.pattern.steps ≡ before
     ++ (steps ++ after) → playing.position ≡ length before → playing.finished ≡ false → AreNext steps playing
 listed-next [] before after playing has at going = tt
@@ -93,7 +93,7 @@ listed-next (s ∷ steps) before after playing has at going = (
       (omega (arith, at, length-append before (s ∷ []))) refl,
 )
 
--- steps that are next in a row: the first ones are, and the others after them
+-- of steps that are next in a row, the first ones are next, and the others are next after them
 pub next-first : (first then : List Step) (playing : Playing) → AreNext (first ++ then) playing → AreNext first playing
 next-first [] then playing next = tt
 next-first (s ∷ first) then playing next = (next.0, next-first first then (step_on playing) next.1)

@@ -1,4 +1,4 @@
--- What a step makes of a verifier.
+-- The effect of a step on a verifier.
 use Rattle.std.specs.Prelude.{◌≡◌, ◌≤◌, ◌<◌, ◌⊎◌, true, List, [], ℕ, Some, Ok, Err, Result, MatchResult}
 use Rattle.p3_fs_core.specs.{Encoding.Encoding, Errors.pattern_error_of, declared.error.TranscriptError.TranscriptError}
 use Rattle.p3_fs_core.specs.declared.error.TranscriptError.TheVariants.{Pattern, BadProofShape, Challenger, OutOfMemory}
@@ -9,7 +9,7 @@ use Rattle.p3_driver_core.specs.Reads.{trailing_bytes, received_work, Unreadable
 use Rattle.p3_patterns.specs.Playing.{FaultOfPlayEnd, IsPlayed, next_step}
 use Rattle.p3_challenger_core.specs.declared.error.ChallengerError.TheVariants as challenger
 
--- the step is played: this is read, and is done
+-- the step is played: this is read, and the effect follows
 pub record Receives {S Symbol A : Type 0} (r : Reading S Symbol A) (before : Driving S) (x : A)
     (after : Driving S) : Type 0 where
   pub is_next : IsNext before.transcript.playing r.interaction
@@ -19,7 +19,7 @@ pub record Receives {S Symbol A : Type 0} (r : Reading S Symbol A) (before : Dri
   pub challenger : after.transcript.challenger ≡ (r.effect x).after before.transcript.challenger
   pub playing : after.transcript.playing ≡ step_on before.transcript.playing
 
--- nothing is read, for the reason
+-- nothing is read, for this reason
 pub record ReadsNothing {S Symbol A : Type 0} (r : Reading S Symbol A) (before : Driving S) (reason : List ℕ)
     (after : Driving S) : Type 0 where
   pub failure : Unreadable S
@@ -37,7 +37,7 @@ pub record RefusesRead {S Symbol A : Type 0} (r : Reading S Symbol A) (before : 
   pub read : r.read before.bytes ≡ Ok (value, after.bytes)
   pub abandons : Abandons r.interaction before.transcript (Leaves value) after.transcript
 
--- why a step that reads is refused, and what is left
+-- why a reading step is refused, and the state left
 abbrev pub RefusesToRead : {S Symbol A : Type 0} → Reading S Symbol A → Driving S → TranscriptError → Driving S → Type 0
 RefusesToRead r before (Pattern e) after =
     RefusesOrder r.interaction before.transcript (Pattern e) after.transcript × (after.bytes ≡ before.bytes)
@@ -48,7 +48,7 @@ RefusesToRead r before OutOfMemory after =
     Abandons r.interaction before.transcript (λ s t. r.may_leave before.bytes s after.bytes t) after.transcript
 RefusesToRead r before _ after = ⊥
 
--- the step is played, and the answer is what was read; or it is refused
+-- the step is played and the result is what was read, or the step is refused
 abbrev pub ReceivesOrRefuses : {S Symbol A R : Type 0} → Reading S Symbol A → OfCall (Driving S) R A
 ReceivesOrRefuses r before value result after =
     MatchResult result (λ y. Receives r before (value y) after) (λ e. RefusesToRead r before e after)
@@ -62,34 +62,34 @@ pub record FailsWork {S Symbol W : Type 0} (work : Work S Symbol W) (enc : Encod
   pub read : (received_work work enc).read before.bytes ≡ Ok (witness, after.bytes)
   pub fails : FailsCheck work witness before.transcript e after.transcript
 
--- the step is played: a witness is read, and passes; or the step is refused
+-- a witness is read and passes, or the step is refused
 abbrev pub ReceivesWork : {S Symbol W R : Type 0} → Work S Symbol W → Encoding W → Driving S →
     Result R TranscriptError → Driving S → Type 0
 ReceivesWork {S} {Symbol} {W} work enc before result after =
     MatchResult result (λ _. (x : W) × Receives (received_work work enc) before x after)
     (λ e. RefusesToRead (received_work work enc) before e after ⊎ FailsWork work enc before e after)
 
--- the same of a witness that the caller carries: the bytes that are left stay as they are
+-- a carried witness passes or the step is refused; the unread bytes stay the same
 abbrev pub ChecksAndKeeps : {S Symbol W R : Type 0} → Work S Symbol W → W → Driving S → Result R TranscriptError →
     Driving S → Type 0
 ChecksAndKeeps work x before result after =
     ChecksOrRefuses work x before.transcript result after.transcript × (after.bytes ≡ before.bytes)
 
--- ---- lists that the caller carries
+-- ---- lists from the caller
 
--- a list of a wrong length is refused first: nothing was done then
+-- a list of a wrong length is refused first, with nothing done
 pub record RefusesCarriedList {S : Type 0}
     (IsWrong : Type 0) (reason : List ℕ) (before : Driving S) (e : TranscriptError) (after : Driving S) : Type 0 where
   pub playing : RefusesCarried IsWrong reason before.transcript.playing e after.transcript.playing
   pub challenger : after.transcript.challenger ≡ before.transcript.challenger
 
--- a list that may have so many elements
+-- a caller's list of at most max elements
 abbrev pub CarriesWithin : {S Symbol A R : Type 0} → ℕ → ℕ → Meaning S Symbol A → OfCall (Driving S) R A
 CarriesWithin len max m before value result after = MatchResult result (λ r. (len ≤ max)
     × PlaysStep m before.transcript (value r) after.transcript) (λ e. RefusesCarriedList (max < len) longer_list
     before e after ⊎ ((len ≤ max) × RefusesStep m before.transcript e after.transcript)) × (after.bytes ≡ before.bytes)
 
--- a list that has as many elements as the next step says, where it says so
+-- a caller's list, as long as the next step says, if it does
 abbrev pub CarriesAsRecorded : {S Symbol A R : Type 0} → ℕ → Meaning S Symbol A → OfCall (Driving S) R A
 CarriesAsRecorded len m before value result after =
     let IsOther = IsOtherLength len (next_step before.transcript.playing) in
@@ -102,7 +102,7 @@ pub record EndsReading {S : Type 0} (v : Driving S) : Type 0 where
   pub played : IsPlayed v.transcript.playing
   pub whole : v.bytes ≡ []
 
--- why a verifier does not end: a step was refused, or is left; or all were played, and bytes are left
+-- why a verifier cannot end: a step was refused or is left, or bytes are left after the last step
 abbrev pub RefusesEnd : {S : Type 0} → Driving S → TranscriptError → Type 0
 RefusesEnd v (Pattern e) = FaultOfPlayEnd v.transcript.playing (pattern_error_of e)
 RefusesEnd v (BadProofShape reason) = IsPlayed v.transcript.playing × (v.bytes ≡ [] → ⊥) × (reason.now ≡ trailing_bytes)

@@ -14,20 +14,20 @@ use Rattle.p3_challenger_core.specs.declared.error.ChallengerError.TheVariants a
 abbrev pub too_few_zero_bits : List ℕ
 too_few_zero_bits = codes "pow witness does not produce enough zero bits"
 
--- what a step asks for: what the pattern must have next, the numbers of the witnesses, what a witness feeds, and its
--- check
+-- what a step of work involves: the pattern's next step, the numbers of the witnesses, the symbols of a witness, and
+-- its check
 pub record Work (S Symbol W : Type 0) : Type 1 where
   pub interaction : Step
   pub residues : Residues W
   pub symbols : W → List Symbol
   pub check : W → Sampling S Bool
 
--- what is fed of a witness, where its check is of so many bits
+-- the symbols of a witness in a check by a number of bits
 abbrev pub symbols_of_check : {Symbol : Type 0} → ℕ → List Symbol → List Symbol
 symbols_of_check zero symbols = []
 symbols_of_check (suc more) symbols = symbols
 
--- work of so many bits, by what a challenger draws before it observes a witness, and how it draws bits
+-- work of a number of bits, given the draws before the witness is observed and the draw of bits
 abbrev pub work_of : {S Symbol W : Type 0} → Step → Residues W → Sampling S (Unit {0}) → Observation S Symbol W →
     (ℕ → Sampling S ℕ) → ℕ → Work S Symbol W
 work_of interaction r before o bit_draws bits = record {
@@ -42,7 +42,7 @@ abbrev pub where_passed : {W : Type 0} → W → Option Bool → Option W
 where_passed x None = None
 where_passed x (Some passes) = if passes then Some x else None
 
--- why a check refuses a witness, and what is left: too few bits are 0, or the challenger refused
+-- why a check refuses a witness, and the state left: too few bits are 0, or the challenger refused
 abbrev pub RefusesWitness : {S : Type 0} → Sampling S Bool → TranscriptError → S → S → Type 0
 RefusesWitness check (BadProofShape reason) s t =
     (reason.now ≡ too_few_zero_bits) × (check.sampled s ≡ Some false) × (t ≡ check.after s)
@@ -58,11 +58,11 @@ module _ {S Symbol W : Type 0} (work : Work S Symbol W) where
   checking x = fitting (work.symbols x)
       (λ s. where_passed x ((work.check x).sampled s)) (work.check x).after (λ e s t. RefusesDraw (work.check x) e s t)
 
-  -- one that does not stand in the proof
+  -- a witness that the proof does not carry
   abbrev pub observed_work : W → Meaning S Symbol W
   observed_work x = without_wire work.interaction (checking x)
 
-  -- one that is sent
+  -- a witness that is sent
   abbrev pub sent_work : Encoding W → W → Meaning S Symbol W
   sent_work e x = with_wire work.interaction (checking x) (e.wire x)
 
@@ -72,21 +72,21 @@ module _ {S Symbol W : Type 0} (work : Work S Symbol W) where
     pub abandons : Abandons work.interaction before
         (λ s t. ((work.check x).sampled s ≡ Some false) × (t ≡ (work.check x).after s)) after
 
-  -- why a witness is not taken, and what is left: the step may not be played; or too few bits are 0, or the challenger
-  -- refused the check, which alone asks for memory
+  -- Why a witness is refused, and the state left. The step may not be played, too few bits are 0, or the challenger
+  -- refused the check, which alone allocates memory.
   abbrev pub RefusesToCheck : W → Transcript S → TranscriptError → Transcript S → Type 0
   RefusesToCheck x before (Pattern e) after = RefusesOrder work.interaction before (Pattern e) after
   RefusesToCheck x before e after = Abandons work.interaction before (RefusesWitness (work.check x) e) after
 
-  -- the step is played, with this witness; or it is refused
+  -- the step is played with this witness, or it is refused
   abbrev pub ChecksOrRefuses : {R : Type 0} → W → Transcript S → Result R TranscriptError → Transcript S → Type 0
   ChecksOrRefuses x before result after =
       MatchResult result (λ _. PlaysStep (observed_work x) before x after) (λ e. RefusesToCheck x before e after)
 
   -- ---- a witness is searched for
 
-  -- why none is found, and what is left: the step may not be played; or no witness passes, or memory was refused, and
-  -- the challenger is as it was
+  -- Why no witness is found, and the state left. The step may not be played; or no witness passes or memory was
+  -- refused, and the challenger is as it was.
   abbrev pub RefusesToGrind : (S → Type 0) → Transcript S → TranscriptError → Transcript S → Type 0
   RefusesToGrind may_run_out before (Pattern e) after = RefusesOrder work.interaction before (Pattern e) after
   RefusesToGrind may_run_out before (Challenger challenger.OutOfMemory) after = ⊥
@@ -96,7 +96,7 @@ module _ {S Symbol W : Type 0} (work : Work S Symbol W) where
       Abandons work.interaction before (RefusesSearch work.residues may_run_out work.check challenger.OutOfMemory) after
   RefusesToGrind may_run_out before _ after = ⊥
 
-  -- the step is played, with the least witness that passes; or it is refused
+  -- the step is played with the least witness that passes, or it is refused
   abbrev pub GrindsOrRefuses : {R : Type 0} → (S → Type 0) → OfCall (Transcript S) R W
   GrindsOrRefuses may_run_out before value result after = MatchResult result
       (λ r. IsLeast work.residues work.check before.challenger (value r)

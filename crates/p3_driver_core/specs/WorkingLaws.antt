@@ -12,7 +12,7 @@ use Rattle.p3_fs_core.specs.Steps.{Step}
 use Rattle.p3_driver_core.specs.Feeding.{FedAmidDraws, LeavesAmidDraws, FeedsItsWitness}
 use Rattle.p3_driver_core.specs.Working.{work_of, where_passed}
 
--- what is given where a witness passes says that it does
+-- a witness is given only where the check passes
 pub where_passed-true : {W : Type 0} (x y : W) (o : Option Bool) → where_passed x o ≡ Some y → o ≡ Some true
 where_passed-true x y None is = search (rules, is)
 where_passed-true x y (Some true) is = refl
@@ -26,7 +26,7 @@ module _ {S Symbol : Type 0} (next : S → S) (fed : S → List Symbol → S) (f
   all_fed : (symbols : List Symbol) (s t : S) → IsFed fed s symbols t → LeavesFed fed s symbols t
   all_fed symbols s t h = (length symbols, subst (λ a. IsFed fed s a t) (sym (take-length symbols)) h)
 
-  -- a check with which nothing is touched
+  -- a check that changes nothing
   untouched-amid : (s : S) → FedAmidDraws next fed s [] s
   untouched-amid s = record {
     first = s;
@@ -112,7 +112,7 @@ module _ {S Symbol : Type 0} (next : S → S) (fed : S → List Symbol → S) (f
     free-leaves DrawLimit s t x h = absurd h.0
     free-leaves e s t x h = absurd h
 
-    -- work feeds its witness, with draws before it and after it; work of 0 bits feeds nothing
+    -- work feeds its witness, with draws before and after it; work of 0 bits feeds nothing
     pub work-feeds : (bits : ℕ) (x : W) → FeedsItsWitness next fed (work_of step r draw o bit_draws bits) x
     work-feeds zero x = record { feeds = λ s is. untouched-amid s; leaves = λ e s t h. free-leaves e s t x h }
     work-feeds (suc more) x = record {

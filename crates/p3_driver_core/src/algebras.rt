@@ -1,4 +1,4 @@
-//! The algebras that steps were of: the identities of the first four are hashed once each.
+//! The algebras of earlier steps: the identities of the first four are hashed once each.
 ghost use Rattle.std.specs.Prelude.{◌≡◌};
 ghost use Rattle.p3_fs_core.specs.{Interactions.step_of, declared.step.TypeTag.TheVariants.Algebra};
 

@@ -1,25 +1,25 @@
-//! A value that a transcript has bound: it was observed, or drawn.
+//! A value that a transcript has bound, because it was observed or drawn.
 ghost use Rattle.std.specs.Prelude.{◌≡◌};
 ghost use Rattle.p3_driver_core.specs.Bound.{bound_value};
 
-/// A value that went through the transcript: it was absorbed, or drawn.
+/// Holds a value that a transcript has bound: the value was absorbed or drawn.
 ///
-/// The drivers answer one, and a user is shown no other way to make it: [`bind`] and
+/// The drivers return such values, and users have no other way to make one: [`bind`] and
 /// [`Steps::bind`](crate::Steps::bind) are for drivers.
 ///
-/// The Rust crate's `TranscriptBound`.
+/// Corresponds to the Rust crate's `TranscriptBound`.
 #[derive(Clone, Copy, Debug, PartialEq, Eq, PartialOrd, Ord, Hash)]
 pub struct TranscriptBound<T>(pub(crate) T);
 
 impl<T> TranscriptBound<T> {
-    /// The value.
+    /// Returns a reference to the value.
     pub fn as_inner(&self) -> &T
         ensures { result.now ≡ bound_value self.now }
     {
         &self.0
     }
 
-    /// The value alone.
+    /// Returns the value itself.
     pub fn into_inner(self) -> T
         ensures { result ≡ bound_value self }
     {
@@ -30,7 +30,8 @@ impl<T> TranscriptBound<T> {
 impl<T: PartialEq> TranscriptBound<T> {
     ghost use Rattle.p3_field_core.specs.Equality.{IsExact};
 
-    /// Two compare as their values do. So they compare equal exactly where they are one, if values compare so.
+    /// Two bound values compare as their values do. So they compare equal exactly where they are the same, if values
+    /// do.
     ///
     /// A law: the body is empty, and a caller cites the clause.
     pub fn compared_by_values()
@@ -40,8 +41,8 @@ impl<T: PartialEq> TranscriptBound<T> {
     {}
 }
 
-/// The value as one of a list that went through the transcript. For drivers: a step that answers one value closes by
-/// [`Steps::bind`](crate::Steps::bind). In the Rust crate it is private.
+/// Marks a value of a list as bound. For drivers: a step with a single value closes by
+/// [`Steps::bind`](crate::Steps::bind). In the Rust crate the function is private.
 pub fn bind<T>(value: T) -> TranscriptBound<T>
     ensures { bound_value result ≡ value }
 {

@@ -1,4 +1,4 @@
-//! That bytes are bytes: a law of the slices of a program.
+//! The law that a program's slices of bytes are bytes.
 ghost use Rattle.p3_challenger_core.specs.Reading.{AreBytes};
 
 /// The items of a slice of bytes are below 256.

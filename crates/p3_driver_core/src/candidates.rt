@@ -1,4 +1,4 @@
-//! Candidates of any kind, drawn one after another, and until a rule has taken so many.
+//! Candidates of any kind, drawn one after another until a rule has accepted enough of them.
 ghost use Rattle.std.specs.Prelude.{◌≡◌, Some, OnOk, IfOk, IfErr, vec_len};
 ghost use Rattle.p3_challenger_core.specs.Sampling.{Sampling, RefusesDraw, draws, after_draws, RefusesDrawVec};
 ghost use Rattle.p3_driver_core.specs.{Bound.bound_values, Rejecting.{Rule, Computes, Takes, TakesAll}};

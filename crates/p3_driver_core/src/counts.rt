@@ -8,7 +8,7 @@ use p3_challenger_core::{CanObserve, ChallengerError};
 use p3_codecs::{AlphabetOf, Unit};
 use p3_fs_core::{bound_byte_width, counts_are_prefix_code, encode_len_be};
 
-/// The count of a step that carries so many values of at most so many, and how many of the bytes it takes.
+/// Returns the count of a step that carries at most `max` values, and the width of the count in bytes.
 ///
 /// Condition: the count is at most `max`. Not in the Rust crate.
 pub fn counted(count: usize, max: usize) -> ([u8; 8], usize)
@@ -20,7 +20,7 @@ pub fn counted(count: usize, max: usize) -> ([u8; 8], usize)
     (encode_len_be(count, width), width)
 }
 
-/// Observes the count of a step that carries so many values of at most so many.
+/// Observes the count of a step that carries at most `max` values.
 ///
 /// The one error is [`ChallengerError::OutOfMemory`]: a count has at most 8 bytes, and no alphabet refuses so few.
 ///
@@ -49,8 +49,8 @@ pub fn counts_take_the_least_width()
     ensures most { (max : ℕ) → count_width max ≤ 8 }
 {}
 
-/// The count of a step is told by its bytes: counts of one step that may be carried have the same bytes where they are
-/// one, and equally many of them, at most 8.
+/// The bytes of a step's count determine it. Two counts that one step may carry have the same bytes exactly where they
+/// are equal. They have equally many bytes, at most 8.
 ///
 /// A law: a caller cites the clauses. Not in the Rust crate.
 pub fn counts_are_told()

@@ -1,4 +1,4 @@
-//! Each step feeds just the symbols that its meaning names: laws, of every challenger, codec and alphabet.
+//! Laws of every challenger, codec and alphabet: each step feeds exactly the symbols that its meaning names.
 ghost use Rattle.std.specs.Prelude.{◌≡◌, ℕ, true, Some, List, length};
 ghost use Rattle.p3_driver_core.specs.Effects.{untouched, observing, observing_list, observing_bytes, drawing};
 ghost use Rattle.p3_driver_core.specs.{Effects.{drawing_list, after_count}, Rejecting.{Rule, drawing_rejecting}};
@@ -9,8 +9,8 @@ use p3_challenger_core::{CanObserve, CanSampleBits, ChallengerError, Sponge};
 use p3_codecs::{AlphabetOf, Codec, Unit};
 use p3_grinding::{CanSampleUniformBits, GrindingChallenger};
 
-/// A step of one value feeds just the value's symbols, and a step of a list those of its values in order. Where it is
-/// refused, a front of these was fed.
+/// A step of one value feeds exactly the value's symbols, and a step of a list those of its values in order. A refused
+/// step has fed a prefix of them.
 ///
 /// A law: the body is empty, and a caller cites the clause.
 pub fn values_feed_their_symbols<A, C: Sponge, Cdc: Codec<C, A>>()
@@ -18,16 +18,16 @@ pub fn values_feed_their_symbols<A, C: Sponge, Cdc: Codec<C, A>>()
     ensures list { (xs : List A) → Feeds C.fed (observing_list Cdc.observation xs) }
 {}
 
-/// A step of a value that the challenger itself knows how to observe feeds just the symbols that the challenger names
-/// for it. Where it is refused, a front of these was fed.
+/// A step of an opaque value feeds exactly the symbols that the challenger names for it. A refused step has fed a
+/// prefix of them.
 ///
 /// A law: the body is empty, and a caller cites the clause.
 pub fn opaque_values_feed_their_symbols<T, C: CanObserve<T>>()
     ensures { (x : T) → Feeds C.fed (observing C.observation x) }
 {}
 
-/// A step of bytes feeds just the symbols of their items; where they come after their count, those of the count's items
-/// first. Where it is refused, a front of these was fed: also where the bytes are too long for the alphabet.
+/// A step of bytes feeds exactly the symbols of their items, after those of the count's items if there is a count. A
+/// refused step has fed a prefix of them, even where the bytes are too long for the alphabet.
 ///
 /// A law: the body is empty, and a caller cites the clause.
 pub fn bytes_feed_their_symbols<U: Unit, C: CanObserve<U::Item>>()
@@ -37,8 +37,8 @@ pub fn bytes_feed_their_symbols<U: Unit, C: CanObserve<U::Item>>()
         Feeds C.fed (after_count alphabet max (length bytes) (observing_bytes alphabet bytes)) }
 {}
 
-/// A step of a list that comes after its count feeds just the symbols of the count's items, and then those of the
-/// values in order. Where it is refused, a front of these was fed.
+/// A step of a counted list feeds exactly the symbols of the count's items, followed by those of the values in order. A
+/// refused step has fed a prefix of them.
 ///
 /// A law: the body is empty, and a caller cites the clause.
 pub fn counted_values_feed_their_symbols<A, U: Unit, C: CanObserve<U::Item>, Cdc: Codec<C, A>>()
@@ -46,8 +46,8 @@ pub fn counted_values_feed_their_symbols<A, U: Unit, C: CanObserve<U::Item>, Cdc
         max (length xs) (observing_list Cdc.observation xs)) }
 {}
 
-/// A step that draws feeds nothing, and makes some number of the challenger's smallest draws, also where it is refused:
-/// a step of one value, of so many, and of so many that a rule takes.
+/// A step that draws feeds nothing, and makes some number of the challenger's smallest draws, even where it is refused.
+/// This holds for steps of one value, of `n` values, and of `n` values that a rule accepts.
 ///
 /// A law: the body is empty, and a caller cites the clause.
 pub fn draws_feed_nothing<A, C: Sponge, Cdc: Codec<C, A>>()
@@ -57,8 +57,8 @@ pub fn draws_feed_nothing<A, C: Sponge, Cdc: Codec<C, A>>()
         OnlyDraws {Symbol = C.Symbol} C.next (drawing_rejecting Cdc.sampling rule limit n) }
 {}
 
-/// A step that draws numbers of so many bits feeds nothing, and makes some number of the challenger's smallest draws,
-/// also where it is refused.
+/// A step that draws numbers of bits feeds nothing, and makes some number of the challenger's smallest draws, even
+/// where it is refused.
 ///
 /// A law: the body is empty, and a caller cites the clause.
 pub fn bit_draws_feed_nothing<C: CanSampleBits<usize>>()
@@ -66,8 +66,8 @@ pub fn bit_draws_feed_nothing<C: CanSampleBits<usize>>()
         (drawing_list (C.bits_sampling width) n) }
 {}
 
-/// A step that draws numbers of so many uniform bits feeds nothing, and makes some number of the challenger's smallest
-/// draws, also where it is refused: a step of so many, and of so many that a rule takes.
+/// A step that draws numbers of uniform bits feeds nothing, and makes some number of the challenger's smallest draws,
+/// even where it is refused. This holds for steps of `n` numbers, and of `n` numbers that a rule accepts.
 ///
 /// A law: the body is empty, and a caller cites the clause.
 pub fn uniform_draws_feed_nothing<F, C: CanSampleUniformBits<F>>()
@@ -77,8 +77,8 @@ pub fn uniform_draws_feed_nothing<F, C: CanSampleUniformBits<F>>()
         {Symbol = C.Symbol} C.next (drawing_rejecting (C.uniform true width).draw rule limit n) }
 {}
 
-/// A step of a proof of work feeds just the symbols of its witness, with draws before them and after them. Where it is
-/// refused, a front of these was fed. One of 0 bits lets each witness pass, feeds nothing, and leaves the challenger as
+/// A step of a proof of work feeds exactly the symbols of its witness, with draws before and after them. A refused step
+/// has fed a prefix of them. With 0 bits each witness passes, and the step feeds nothing and leaves the challenger as
 /// it is.
 ///
 /// A law: the body is empty, and a caller cites the clause.

@@ -1,7 +1,7 @@
-//! What both drivers of a transcript share: what a step means, how it is held against the pattern, and how its values
-//! reach the challenger.
+//! The parts that both drivers of a transcript share. They are the meanings of steps, their comparison with the
+//! pattern, and the observation and draw of their values.
 //!
-//! What is called a law is a function without effect whose contract a caller cites. The Rust crate has none.
+//! A law is a function without effect whose contract a caller cites. The Rust crate has none.
 #![tactic(auto)]
 
 mod algebras;

@@ -1,5 +1,4 @@
-//! Values in a list: observed one after another, drawn one after another, and handed out as ones that went through the
-//! transcript.
+//! Values of a list: observed one after another, drawn one after another, and returned as bound values.
 ghost use Rattle.std.specs.Prelude.{◌≡◌, ◌≤◌, Some, OnOk, IfOk, IfErr, length, vec_len};
 ghost use Rattle.p3_challenger_core.specs.Observation.{observed_all, LeavesInCalls, RefusesObserve};
 ghost use Rattle.p3_challenger_core.specs.Sampling.{draws, after_draws, RefusesDrawVec};
@@ -42,8 +41,8 @@ impl<C: CanSampleBits<usize>> Candidates<C, usize> for Numbers {
 
 /// Observes values one after another.
 ///
-/// The errors are those of [`Codec::observe`]. The values before the refused one are observed then, and of that one
-/// what its observe leaves. Not in the Rust crate.
+/// The errors are those of [`Codec::observe`]. After an error the values before the refused one are observed, plus
+/// what the refused observation leaves. Not in the Rust crate.
 pub fn observe_values<T, C: Sponge, Cdc: Codec<C, T>>(
     challenger: &mut C,
     values: &[T],
@@ -59,9 +58,9 @@ pub fn observe_values<T, C: Sponge, Cdc: Codec<C, T>>(
     Ok(())
 }
 
-/// The values as ones that went through the transcript.
+/// Returns the values as bound ones.
 ///
-/// The one error is that memory was refused. Not in the Rust crate.
+/// The one error is out of memory. Not in the Rust crate.
 pub fn bind_all<T: Copy>(alloc: Global, values: &[T]) -> Result<Vec<TranscriptBound<T>>, AllocError>
     ensures values { IfOk result (λ bounds. bound_values bounds ≡ values.now) }
     ensures count { IfOk result (λ bounds. vec_len bounds ≡ length values.now) }
@@ -73,11 +72,11 @@ pub fn bind_all<T: Copy>(alloc: Global, values: &[T]) -> Result<Vec<TranscriptBo
     Ok(bounds)
 }
 
-/// Draws so many values one after another. Their memory is asked for first.
+/// Draws `n` values one after another. Memory for them is allocated first.
 ///
 /// The errors are those of [`Codec::sample`], after which the draws before the refused one are done, and
 /// [`ChallengerError::OutOfMemory`] with nothing drawn. Condition: the codec has at least
-/// [`MIN_CHALLENGE_SECURITY_BITS`](p3_codecs::MIN_CHALLENGE_SECURITY_BITS) of security. Not in the Rust crate.
+/// [`MIN_CHALLENGE_SECURITY_BITS`](p3_codecs::MIN_CHALLENGE_SECURITY_BITS) bits of security. Not in the Rust crate.
 pub fn draw_values<T: Copy, C: Sponge, Cdc: Codec<C, T>>(
     challenger: &mut C,
     alloc: Global,
@@ -95,7 +94,7 @@ pub fn draw_values<T: Copy, C: Sponge, Cdc: Codec<C, T>>(
     draw_all(&Values::<Cdc>(PhantomData), challenger, alloc, n)
 }
 
-/// Draws so many numbers of so many bits one after another. Their memory is asked for first.
+/// Draws `n` numbers of `width` bits one after another. Memory for them is allocated first.
 ///
 /// The errors are those of [`CanSampleBits::sample_bits`], after which the draws before the refused one are done, and
 /// [`ChallengerError::OutOfMemory`] with nothing drawn. Condition: `width` is at most

@@ -1,4 +1,4 @@
-//! The order of a pattern: laws of which steps may be played, and which are refused as wrong ones.
+//! Laws of the order of a pattern: the steps that may be played, and those refused as wrong ones.
 ghost use Rattle.std.specs.Prelude.{◌≡◌, ◌++◌, true, false, List, length};
 ghost use Rattle.p3_driver_core.specs.Transcripts.{IsNext, AreNext, steps_on, RefusesPlayEnd};
 ghost use Rattle.p3_fs_core.specs.{Steps.Step, declared.error.TranscriptError.TheVariants.Pattern};
@@ -7,8 +7,8 @@ ghost use Rattle.p3_patterns.specs.Playing.{Playing, RefusesToPlay, IsPlayed};
 
 use p3_fs_core::TranscriptError;
 
-/// A step that is the next one of the pattern is not refused as a wrong one, and a player whose steps are all played is
-/// not refused the end.
+/// The next step of a pattern is not refused as a wrong one. A player whose steps are all played is not refused at the
+/// end.
 ///
 /// A law: the body is empty, and a caller cites the clause.
 pub fn next_steps_are_not_wrong()
@@ -18,8 +18,8 @@ pub fn next_steps_are_not_wrong()
         RefusesPlayEnd playing e → ⊥ }
 {}
 
-/// Once a step was refused, or the driver was halted, each step is refused as finished, and changes nothing; and so is
-/// the end.
+/// Once a step was refused or the driver was halted, each step is refused as finished and changes nothing. So is the
+/// end.
 ///
 /// A law: the body is empty, and a caller cites the clause.
 pub fn finished_players_refuse()
@@ -29,8 +29,8 @@ pub fn finished_players_refuse()
         RefusesPlayEnd playing e → e ≡ Pattern Finished }
 {}
 
-/// Steps that stand in a pattern are the next ones, in their order, where a player stands at the first of them. Of
-/// steps that are next in a row, the first ones are; and the others are, after these.
+/// Steps of a pattern are the next ones, in their order, where a player stands at the first of them. Of steps that are
+/// next in a row, the first ones are next, and the others are next after these.
 ///
 /// A law: the body is empty, and a caller cites the clause.
 pub fn listed_steps_are_next()

@@ -1,4 +1,4 @@
-//! Values of a codec, drawn until a rule has taken so many.
+//! Values of a codec, drawn until a rule has accepted enough of them.
 ghost use Rattle.std.specs.Prelude.{◌≡◌, ◌≤◌, ◌↔◌, ℕ, List, [], IfOk, vec_len};
 ghost use Rattle.p3_driver_core.specs.Bound.{bound_values};
 ghost use Rattle.p3_driver_core.specs.Rejecting.{Rule, Computes, TakesAll, given, keeps, KeepsFirst};
@@ -11,16 +11,17 @@ use p3_codecs::Codec;
 use std::alloc::Global;
 use std::marker::PhantomData;
 
-/// Draws values until the rule `accept` has taken `n`, and answers these in order. Their memory is asked for first.
+/// Draws values until the rule `accept` has accepted `n`, and returns these in order. Memory for them is allocated
+/// first.
 ///
-/// The rule is asked of each candidate beside those kept before it. The errors are [`ChallengerError::OutOfMemory`],
-/// and [`ChallengerError::DrawLimit`] where the challenger meets its own draw limit, or right after the rule has
-/// refused `limit` candidates in a row, counted from the last kept one or the start. What was drawn is consumed.
+/// The rule is called for each candidate, with those kept before it. The errors are [`ChallengerError::OutOfMemory`]
+/// and [`ChallengerError::DrawLimit`]. The latter comes where the challenger meets its own draw limit. It comes too
+/// right after the rule has refused `limit` candidates in a row, counted from the last kept one or the start. What
+/// was drawn is consumed.
 ///
-/// Conditions: the rule may be asked at any time, and the codec has at least
-/// [`MIN_CHALLENGE_SECURITY_BITS`](p3_codecs::MIN_CHALLENGE_SECURITY_BITS) of security. What is said here holds for a
-/// rule that is a function of its arguments: one that answers otherwise when it is asked the same again is promised
-/// nothing. Not in the Rust crate.
+/// Conditions: the rule may be called at any time, and the codec has at least
+/// [`MIN_CHALLENGE_SECURITY_BITS`](p3_codecs::MIN_CHALLENGE_SECURITY_BITS) bits of security. The contract holds for a
+/// rule that is a function of its arguments, and promises nothing for any other rule. Not in the Rust crate.
 pub fn draw_accepted<T: Copy, C: Sponge, Cdc: Codec<C, T>, R: Fn(&T, &[T]) -> bool>(
     challenger: &mut C,
     alloc: Global,
@@ -38,9 +39,9 @@ pub fn draw_accepted<T: Copy, C: Sponge, Cdc: Codec<C, T>, R: Fn(&T, &[T]) -> bo
     draw_accepted_candidates(&values, challenger, alloc, n, accept, limit)
 }
 
-/// A rejecting draw keeps just the first accepted candidates: candidates are drawn in a row, the kept ones are those
-/// that the rule accepts, each asked of beside those kept before it, and before each of them fewer than `limit` are
-/// refused. The draw ends with the last one that is kept.
+/// A rejecting draw keeps exactly the first accepted candidates. Candidates are drawn in a row, and the kept ones are
+/// those that the rule accepts, given those kept before. Before each kept one fewer than `limit` are rejected. The
+/// draw ends with the last kept one.
 ///
 /// A law: the body is empty, and a caller cites the clause.
 pub fn rejecting_draws_keep_the_first_accepted<A, C: Sponge, Cdc: Codec<C, A>>()

@@ -1,4 +1,4 @@
-//! The pattern as a driver plays it: each step is held against the next one before anything else is done.
+//! The progress of a driver in its pattern: each step is compared with the next one before anything else is done.
 ghost use Rattle.std.specs.Prelude.{◌≡◌, ◌≤◌, ◌<◌, ◌↔◌, false, IfErr, IfOk, OnOk, IsOk, IsTrue};
 ghost use Rattle.p3_fs_core.specs.Interactions.{step_of};
 ghost use Rattle.p3_patterns.specs.Playing.{RefusesToPlay, IsPlayed, next_step};
@@ -19,11 +19,11 @@ use std::alloc::{AllocError, Global};
 use std::marker::PhantomData;
 use std::rc::Rc;
 
-/// The pattern as a driver plays it.
+/// Tracks a driver's progress in its pattern.
 ///
-/// A step is opened by [`take`](Steps::take) once it is the next one of the pattern, and closed by
-/// [`done`](Steps::done), or by [`bind`](Steps::bind) where it answers one value. Between the two no other step is
-/// taken, so that a step which is given up in the middle leaves the driver finished.
+/// [`take`](Steps::take) opens a step that is the next one of the pattern. [`done`](Steps::done) closes it, or
+/// [`bind`](Steps::bind) where it has a single result. In between no other step is taken, so a step abandoned in the
+/// middle leaves the driver finished.
 ///
 /// Not in the Rust crate.
 #[derive_where(Debug)]
@@ -35,8 +35,8 @@ pub struct Steps<D: DigestHasher> {
 }
 
 impl<D: DigestHasher> Steps<D> {
-    /// The steps of a pattern, of which none was taken yet. Room is asked for here, so that no step asks for any to
-    /// keep what it knows of its algebra.
+    /// Returns the steps of a pattern, none of them taken yet. Memory for the digests of algebras is allocated here,
+    /// so that no later step needs any for them.
     pub fn new(alloc: Global, pattern: Rc<InteractionPattern>) -> Result<Self, AllocError>
         ensures { IfOk result (λ steps.
             playing_of steps ≡ record { pattern = pattern.value; position = 0; finished = false }) }
@@ -49,10 +49,10 @@ impl<D: DigestHasher> Steps<D> {
         })
     }
 
-    /// Opens a step, which must be the next one of the pattern.
+    /// Opens a step, which has to be the next one of the pattern.
     ///
-    /// The errors are those of [`PatternPlayer`], and [`PatternError::Finished`] where a step is open or was given
-    /// up. None is taken from then on.
+    /// The errors are those of [`PatternPlayer`], and [`PatternError::Finished`] where a step is open or was
+    /// abandoned. After an error no step is taken.
     pub fn take(&mut self, interaction: Interaction) -> Result<(), TranscriptError>
         ensures ok { OnOk result (Opens self.old (step_of interaction) self.new) }
         ensures err { IfErr result (λ e. RefusesToPlay (playing_of self.old) (step_of interaction) e
@@ -66,8 +66,8 @@ impl<D: DigestHasher> Steps<D> {
         Ok(())
     }
 
-    /// Opens a step that carries elements of an algebra, as [`take`](Steps::take) does. The identity of the algebra is
-    /// hashed where no step before was of it, or four others were known before it.
+    /// Opens a step that carries elements of an algebra, as [`take`](Steps::take) does. The identity of each of the
+    /// first four algebras is hashed once, and that of any other at each of its steps.
     pub fn take_algebra<F: TranscriptField, A: AlgebraIdentity<F> + Named>(
         &mut self,
         kind: Kind,
@@ -137,10 +137,10 @@ impl<D: DigestHasher> Steps<D> {
         ))
     }
 
-    /// Lets a list through that is no longer than its step lets it be, before the step is held against the pattern.
+    /// Checks that a list is no longer than its step allows, before the step is compared with the pattern.
     ///
     /// The errors are [`PatternError::Finished`] where a step was refused before, and then [`PatternError::OverCap`]
-    /// where the list is longer. None is taken from then on.
+    /// where the list is longer. After an error no step is taken.
     pub fn within(&mut self, len: usize, max: usize) -> Result<(), TranscriptError>
         ensures ok { OnOk result ((len ≤ max) × (self.new ≡ self.old)) }
         ensures err { IfErr result
@@ -156,10 +156,10 @@ impl<D: DigestHasher> Steps<D> {
         Ok(())
     }
 
-    /// Lets a list through that a caller carries, which is no longer than its step lets it be.
+    /// Checks that a caller's list is no longer than its step allows.
     ///
     /// The errors are [`PatternError::Finished`] where a step was refused before, and then
-    /// [`TranscriptError::BadProofShape`] where the list is longer. None is taken from then on.
+    /// [`TranscriptError::BadProofShape`] where the list is longer. After an error no step is taken.
     pub fn carried_within(&mut self, len: usize, max: usize) -> Result<(), TranscriptError>
         ensures ok { OnOk result ((len ≤ max) × (self.new ≡ self.old)) }
         ensures err { IfErr result (λ e. RefusesCarried (max < len) longer_list
@@ -177,10 +177,10 @@ impl<D: DigestHasher> Steps<D> {
         Ok(())
     }
 
-    /// Lets a list through that a caller carries, but for one where the next step has a list of another length.
+    /// Checks a caller's list, which is refused where the next step has a list of another length.
     ///
     /// The errors are [`PatternError::Finished`] where a step was refused before, and then
-    /// [`TranscriptError::BadProofShape`] where the next step has another length. None is taken from then on.
+    /// [`TranscriptError::BadProofShape`] where the next step has another length. After an error no step is taken.
     pub fn carried_as_recorded(&mut self, len: usize) -> Result<(), TranscriptError>
         ensures ok { OnOk result
             ((IsOtherLength len (next_step (playing_of self.old)) → ⊥) × (self.new ≡ self.old)) }
@@ -213,17 +213,17 @@ impl<D: DigestHasher> Steps<D> {
         }
     }
 
-    /// A step was refused, so none is taken any more.
+    /// Returns whether a step was refused, after which none is taken.
     pub fn is_finished(&self) -> bool
         ensures { result ≡ (playing_of self.now).finished }
     {
         self.closed || self.player.is_finalized()
     }
 
-    /// Spends it. It answers `Ok` exactly where no step was refused and none is left.
+    /// Spends the steps. The result is `Ok` exactly where no step was refused and none is left.
     ///
     /// Else the error is [`PatternError::Finished`] where a step was refused, and [`PatternError::Unplayed`] with the
-    /// next step where there is one. It takes no memory.
+    /// next step where one is left. This call takes no memory.
     pub fn finalize(self) -> Result<(), TranscriptError>
         ensures ok { OnOk result (IsPlayed (playing_of self)) }
         ensures err { IfErr result (RefusesPlayEnd (playing_of self)) }
@@ -241,14 +241,14 @@ impl<D: DigestHasher> Steps<D> {
         player.finalize()
     }
 
-    /// Takes no step any more, as once one was refused. Pattern and position stay.
+    /// Ends the play, as a refused step does. The pattern and the position stay.
     pub fn halt(&mut self)
         ensures { playing_of self.new ≡ halted_player (playing_of self.old) }
     {
         self.closed = true;
     }
 
-    /// Gives up, and spends it. What was played so far is not checked.
+    /// Gives up and spends the steps, without a check of what was played.
     pub fn abort(self) {
         let Steps {
             player,
@@ -258,14 +258,14 @@ impl<D: DigestHasher> Steps<D> {
         player.abort();
     }
 
-    /// Closes the step that is open: it was played.
+    /// Closes the open step, which was played.
     pub fn done(&mut self)
         ensures { self.new ≡ record self.old { closed = false } }
     {
         self.closed = false;
     }
 
-    /// Closes the step that is open: it was played, so the value that it answers went through the transcript.
+    /// Closes the open step, which was played, and returns its result as a bound value.
     pub fn bind<T>(&mut self, value: T) -> TranscriptBound<T>
         ensures closed { self.new ≡ record self.old { closed = false } }
         ensures value { bound_value result ≡ value }

@@ -1,4 +1,4 @@
-//! The steps that a prover and a verifier play alike, for code that plays either side.
+//! The steps that a prover and a verifier play by the same methods, for code that plays either side.
 ghost use Rattle.std.specs.Prelude.{◌≡◌, ◌≤◌, ℕ, true, List, IsOk, IfOk, IfErr, vec_len};
 ghost use Rattle.p3_fs_core.specs.{Steps.marker_of, declared.step.Kind.TheVariants.{Challenge, Message, Protocol}};
 ghost use Rattle.p3_fs_core.specs.declared.step.Length.TheVariants.{Fixed, Scalar};
@@ -15,21 +15,21 @@ use p3_fs_core::{Declared, Hierarchy, Kind, Label, TranscriptError, TranscriptFi
 use p3_grinding::CanSampleUniformBits;
 use p3_symmetric::DigestHasher;
 
-/// The mark of the two drivers. Users are not shown it, so that no other type of theirs plays steps. In the Rust
-/// crate it is private.
+/// Marks the two drivers. The trait is internal, so that no type of a user plays steps. In the Rust crate it is
+/// private.
 pub trait Driver {}
 
-/// Steps that a prover and a verifier play alike: those that take no part in the bytes of the proof.
+/// The steps that a prover and a verifier play by the same methods: those without bytes in the proof.
 ///
-/// Code that is written over this trait plays either side. Each method is the driver's own of the same name: the same
-/// answer, the same errors, and the same left after them.
+/// Code over this trait plays either side. Each method is the driver's own of the same name, with the same result, the
+/// same errors, and the same state after them.
 ///
-/// The Rust crate's `SymmetricSteps`.
+/// Corresponds to the Rust crate's `SymmetricSteps`.
 pub trait SymmetricSteps: Driver {
     /// The challenger that the driver observes into and draws from.
     type Challenger: Sponge;
 
-    /// The hash function of the digests of algebras.
+    /// The hash function for the digests of algebras.
     type Digest: DigestHasher;
 
     // Its challenger, and its pattern as it is played.
@@ -38,14 +38,14 @@ pub trait SymmetricSteps: Driver {
     // The bytes of the proof that were written, or that are left to read.
     ghost bytes: { Self → List ℕ };
 
-    /// Plays no step any more, as once one was refused. Challenger and bytes stay as they are.
+    /// Ends the play, as a refused step does. The challenger and the bytes stay as they are.
     ///
     /// Not in the Rust crate.
     fn halt(&mut self)
         ensures transcript { transcript self.new ≡ halted (transcript self.old) }
         ensures bytes { bytes self.new ≡ bytes self.old };
 
-    /// Opens a container that may hold steps of any kind. It takes no memory.
+    /// Opens a container that may hold steps of any kind. This call takes no memory.
     fn begin_protocol<T: Named>(&mut self, label: Label) -> Result<(), TranscriptError>
         ensures played { PlaysOrRefuses (meaning.marked {Symbol = Self.Challenger.Symbol}
             (marker_of Hierarchy.Begin Protocol label.now T.name_bytes))
@@ -54,7 +54,7 @@ pub trait SymmetricSteps: Driver {
         ensures only { IsNext (transcript self.old).playing
             (marker_of Hierarchy.Begin Protocol label.now T.name_bytes) → IsOk result };
 
-    /// Closes a container that may hold steps of any kind. It takes no memory.
+    /// Closes a container that may hold steps of any kind. This call takes no memory.
     fn end_protocol<T: Named>(&mut self, label: Label) -> Result<(), TranscriptError>
         ensures played { PlaysOrRefuses (meaning.marked {Symbol = Self.Challenger.Symbol}
             (marker_of Hierarchy.End Protocol label.now T.name_bytes))
@@ -63,9 +63,9 @@ pub trait SymmetricSteps: Driver {
         ensures only { IsNext (transcript self.old).playing
             (marker_of Hierarchy.End Protocol label.now T.name_bytes) → IsOk result };
 
-    /// Observes a value as the challenger itself knows how.
+    /// Observes a value in the challenger's own way.
     ///
-    /// Condition: clones of the value equal it, which the Rust crate does not ask.
+    /// Condition: clones of the value equal the value. The Rust crate does not require this.
     fn observe_opaque<T: Clone>(
         &mut self,
         label: Label,
@@ -93,8 +93,8 @@ pub trait SymmetricSteps: Driver {
 
     /// Draws one element of an extension, coefficient 0 first.
     ///
-    /// Condition: the codec has at least [`MIN_CHALLENGE_SECURITY_BITS`](p3_codecs::MIN_CHALLENGE_SECURITY_BITS) of
-    /// security.
+    /// Condition: the codec has at least [`MIN_CHALLENGE_SECURITY_BITS`](p3_codecs::MIN_CHALLENGE_SECURITY_BITS) bits
+    /// of security.
     fn challenge_extension<
         F: TranscriptField,
         EF: AlgebraIdentity<F> + Named,
@@ -107,17 +107,17 @@ pub trait SymmetricSteps: Driver {
             (transcript self.old) bound_value result (transcript self.new) }
         ensures bytes { bytes self.new ≡ bytes self.old };
 
-    /// Draws elements of an extension until the rule `accept` has taken `n`, and answers these in order.
+    /// Draws elements of an extension until the rule `accept` has accepted `n`, and returns these in order.
     ///
     /// Right after the rule has refused `limit` candidates in a row the step is refused with
     /// [`ChallengerError::DrawLimit`](p3_challenger_core::ChallengerError::DrawLimit). The Rust crate has no limit.
     ///
-    /// Conditions: the rule may be asked at any time, and the codec has at least
-    /// [`MIN_CHALLENGE_SECURITY_BITS`](p3_codecs::MIN_CHALLENGE_SECURITY_BITS) of security.
+    /// Conditions: the rule may be called at any time, and the codec has at least
+    /// [`MIN_CHALLENGE_SECURITY_BITS`](p3_codecs::MIN_CHALLENGE_SECURITY_BITS) bits of security.
     ///
-    /// What is drawn, kept and answered is said of a rule that is a function of its arguments. Of one that answers
-    /// otherwise when it is asked the same again, this is said: `n` values are answered, and only where the step is the
-    /// next one; else nothing is drawn; a refused step is the last one; and the bytes of the proof are as they were.
+    /// The contract says what is drawn, kept and returned for a rule that is a function of its arguments. For any other
+    /// rule it says only this. The bytes of the proof stay the same. Only where the step is the next one are `n` values
+    /// returned; where it is not, nothing is drawn. A refused step is the last one.
     fn challenge_extensions_rejecting<
         F: TranscriptField,
         EF: AlgebraIdentity<F> + Named,
@@ -143,7 +143,7 @@ pub trait SymmetricSteps: Driver {
         ensures bytes { bytes self.new ≡ bytes self.old }
         ensures spent { IfErr result (λ _. (transcript self.new).playing.finished ≡ true) };
 
-    /// Draws `n` numbers of `width` uniform bits: another value is drawn in the place of one that is rejected.
+    /// Draws `n` numbers of `width` uniform bits. A rejected value is replaced by another draw.
     ///
     /// Condition: `width` is at most [`max_bits`](p3_challenger_core::CanSampleBits::max_bits).
     fn challenge_uniform_bits<F>(

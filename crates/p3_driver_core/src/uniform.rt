@@ -1,4 +1,4 @@
-//! Numbers of uniform bits, drawn one after another, and until a rule has taken so many.
+//! Numbers of uniform bits, drawn one after another or until a rule has accepted enough of them.
 ghost use Rattle.std.specs.Prelude.{◌≡◌, ◌≤◌, ◌↔◌, ℕ, true, List, [], Some, OnOk, IfOk, IfErr, vec_len};
 ghost use Rattle.p3_challenger_core.specs.Sampling.{draws, after_draws, RefusesDrawVec};
 ghost use Rattle.p3_driver_core.specs.Bound.{bound_values};
@@ -29,7 +29,7 @@ impl<F, C: CanSampleUniformBits<F>> Candidates<C, usize> for UniformNumbers<F> {
     }
 }
 
-/// Draws so many numbers of `width` uniform bits, one after another. Their memory is asked for first.
+/// Draws `n` numbers of `width` uniform bits, one after another. Memory for them is allocated first.
 ///
 /// The errors are those of a draw, after which the draws before the refused one are done, and
 /// [`ChallengerError::OutOfMemory`] with nothing drawn. Condition: `width` is at most
@@ -53,13 +53,12 @@ pub fn draw_uniform_numbers<F, C: CanSampleUniformBits<F>>(
     draw_all(&numbers, challenger, alloc, n)
 }
 
-/// Draws numbers of `width` uniform bits until the rule `accept` has taken `n`, and answers these in order.
-/// Their memory is asked for first.
+/// Draws numbers of `width` uniform bits until the rule `accept` has accepted `n`, and returns these in order. Memory
+/// for them is allocated first.
 ///
-/// The rule and the errors are as in [`draw_accepted`](crate::draw_accepted). Conditions: the rule may be asked at
-/// any time, and `width` is at most [`max_bits`](p3_challenger_core::CanSampleBits::max_bits). What is said here holds
-/// for a rule that is a function of its arguments: one that answers otherwise when it is asked the same again is
-/// promised nothing. Not in the Rust crate.
+/// The rule and the errors are as in [`draw_accepted`](crate::draw_accepted). Conditions: the rule may be called at
+/// any time, and `width` is at most [`max_bits`](p3_challenger_core::CanSampleBits::max_bits). The contract holds for
+/// a rule that is a function of its arguments, and promises nothing for any other rule. Not in the Rust crate.
 pub fn draw_accepted_numbers<F, C: CanSampleUniformBits<F>, R: Fn(usize, &[usize]) -> bool>(
     challenger: &mut C,
     alloc: Global,
@@ -80,8 +79,8 @@ pub fn draw_accepted_numbers<F, C: CanSampleUniformBits<F>, R: Fn(usize, &[usize
     draw_accepted_candidates(&numbers, challenger, alloc, n, &accepts, limit)
 }
 
-/// A rejecting draw of uniform bits keeps just the first accepted numbers, as
-/// [`rejecting_draws_keep_the_first_accepted`](crate::rejecting_draws_keep_the_first_accepted) says it of values.
+/// A rejecting draw of uniform bits keeps exactly the first accepted numbers. The law is that of
+/// [`rejecting_draws_keep_the_first_accepted`](crate::rejecting_draws_keep_the_first_accepted) for values.
 ///
 /// A law: the body is empty, and a caller cites the clause.
 pub fn rejecting_uniform_draws_keep_the_first_accepted<F, C: CanSampleUniformBits<F>>()

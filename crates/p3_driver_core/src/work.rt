@@ -1,4 +1,4 @@
-//! Proof of work in a step: a witness is checked.
+//! Proof of work in a step: the check of a witness.
 ghost use Rattle.std.specs.Prelude.{◌≡◌, ◌≤◌, true, Some, OnOk, IfErr};
 ghost use Rattle.p3_grinding.specs.Checks.{all_zero, check_of};
 ghost use Rattle.p3_driver_core.specs.Working.{RefusesWitness};
@@ -6,11 +6,11 @@ ghost use Rattle.p3_driver_core.specs.Working.{RefusesWitness};
 use p3_fs_core::TranscriptError;
 use p3_grinding::GrindingChallenger;
 
-/// Checks a witness: so many bits are 0 that are drawn after it.
+/// Checks a witness: the next `bits` bits drawn after it are 0.
 ///
 /// The errors are those of [`GrindingChallenger::check_witness`], and [`TranscriptError::BadProofShape`] with `pow
-/// witness does not produce enough zero bits` where the check is false: it is done then. Condition: `bits` is at most
-/// [`max_bits`](p3_challenger_core::CanSampleBits::max_bits). Not in the Rust crate.
+/// witness does not produce enough zero bits` where the check fails; the check is done then. Condition: `bits` is at
+/// most [`max_bits`](p3_challenger_core::CanSampleBits::max_bits). Not in the Rust crate.
 pub fn check_work<C: GrindingChallenger>(
     challenger: &mut C,
     bits: usize,

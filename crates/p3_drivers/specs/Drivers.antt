@@ -7,16 +7,16 @@ use Rattle.p3_driver_core.specs.{Verifying.ReceivesOrRefuses, Driving.{Driving, 
 use Rattle.p3_driver_core.specs.{Proving.WritesOrRefuses, Reads.Reading, Transcripts.{Meaning, OfCall, Transcript}}
 use Rattle.p3_drivers.specs.declared.{driver.DriverState.DriverState, tape.{Written.Written, Unread.Unread}}
 
--- the transcript of a driver of either side, where this is the state of a challenger
+-- the transcript of a driver of either side, with this state of its challenger
 abbrev pub played_by : {C U D P S : Type 0} {hasher : Ghosts D} → (C → S) → DriverState C U D P hasher → Transcript S
 played_by state d = transcript_of (state d.challenger) d.steps
 
--- a driver of either side, where this is the state of a challenger, and these are the bytes of a tape
+-- a driver of either side, with this state of its challenger and these bytes of its tape
 abbrev pub driving_of : {C U D P S : Type 0} {hasher : Ghosts D} → (C → S) → (P → List ℕ) → DriverState C U D P hasher →
     Driving S
 driving_of state bytes d = record { transcript = played_by state d; bytes = bytes d.tape }
 
--- such a driver plays the step, and the answer is what came of it, or is refused it; and its bytes stay as they are
+-- a driver plays the step and returns its result, or refuses the step; its bytes stay the same
 abbrev pub Keeps : {C U D P S Symbol A R : Type 0} {hasher : Ghosts D} → (C → S) → (P → List ℕ) → Meaning S Symbol A →
     OfCall (DriverState C U D P hasher) R A
 Keeps state bytes m before value result after =
@@ -31,18 +31,18 @@ abbrev pub verifying_of : {C U D S : Type 0} {hasher : Ghosts D} → (C → S) �
 verifying_of state = driving_of state (λ tape. tape.bytes.now)
 
 module _ {C U D S Symbol A R : Type 0} {hasher : Ghosts D} (state : C → S) where
-  -- a verifier plays a step that reads, and the answer is what was read; or it is refused the step
+  -- a verifier plays a reading step and returns what it read, or refuses the step
   abbrev pub ReadsOrRefuses : Reading S Symbol A → OfCall (DriverState C U D Unread hasher) R A
   ReadsOrRefuses r before value result after =
       ReceivesOrRefuses r (verifying_of state before) value result (verifying_of state after)
 
-  -- a prover plays a step that writes, adds its bytes, and the answer is what came of it; or it is refused the step
+  -- a prover plays a writing step, adds its bytes and returns its result, or refuses the step
   abbrev pub AddsOrRefuses : Meaning S Symbol A → OfCall (DriverState C U D Written hasher) R A
   AddsOrRefuses m before value result after =
       WritesOrRefuses m (proving_of state before) value result (proving_of state after)
 
--- a driver of which no step was played yet: its challenger observed these items, its pattern is at its first step, and
--- these are the bytes of its tape
+-- a driver before its first step: its challenger has observed these items, its pattern is at its first step, and its
+-- tape has these bytes
 abbrev pub beginning : {S Symbol I : Type 0} → Observation S Symbol I → S → List I → PatternSteps → List ℕ → Driving S
 beginning o challenger items pattern bytes = record {
   transcript = record {

@@ -1,5 +1,5 @@
-//! The driver of a transcript: it plays a pattern, and writes the proof, or reads it. What it is, how it begins and how
-//! it ends.
+//! The driver of a transcript: it plays a pattern while it writes or reads the proof. This file has its state,
+//! beginning and end.
 //!
 //! ```text
 //! prover                                                      verifier
@@ -11,7 +11,7 @@
 //! finalize             the pattern is played whole            finalize         the same, and the proof is read whole
 //! ```
 //!
-//! Each step is held against the pattern first.
+//! Each step is compared with the pattern first.
 ghost use Rattle.std.specs.{Borrow.sem, Prelude.{◌≡◌, [], length, OnOk, IfOk, IfErr, IsOk}};
 ghost use Rattle.p3_challenger_core.specs.Reading.{AreBytes};
 ghost use Rattle.p3_domain_separator.specs.SeparatorSeed.{seed_of_separator, pattern_of};
@@ -40,24 +40,24 @@ use p3_symmetric::DigestHasher;
 use std::alloc::Global;
 use std::marker::PhantomData;
 
-/// One side of a transcript: it plays a pattern step by step, over the proof that it writes or reads.
+/// One side of a transcript: it plays a pattern step by step while it writes or reads the proof.
 ///
-/// `C` is the challenger, `U` the alphabet in which it observes bytes, `D` the hash function of the digests of algebras
-/// and of the pattern, and `P` the proof as the side has it. Its two sides are [`ProverState`] and [`VerifierState`].
+/// `C` is the challenger, `U` the alphabet in which it observes bytes, and `D` the hash function for the digests of
+/// algebras and of the pattern. `P` is the proof in the form of the side. The two sides are [`ProverState`] and
+/// [`VerifierState`].
 ///
-/// A step is refused with [`TranscriptError::Pattern`] where it may not be played: with
-/// [`PatternError::Finished`](p3_fs_core::PatternError::Finished) once a step was refused, with
-/// [`PatternError::NoMoreSteps`](p3_fs_core::PatternError::NoMoreSteps) where the pattern has none left, and with
-/// [`PatternError::WrongStep`](p3_fs_core::PatternError::WrongStep) where it has another one next. Nothing is absorbed
-/// then, and nothing written or read. A step that the pattern has next is refused with [`TranscriptError::Challenger`],
-/// as the challenger or the alphabet refuses it; and with [`TranscriptError::OutOfMemory`], which leaves a beginning of
-/// the step's values absorbed or drawn. So it is of every step of either side; what a step says of errors comes
-/// besides.
+/// A step is refused with [`TranscriptError::Pattern`] where it may not be played. The reason is
+/// [`PatternError::Finished`](p3_fs_core::PatternError::Finished) once a step was refused,
+/// [`PatternError::NoMoreSteps`](p3_fs_core::PatternError::NoMoreSteps) at the end of the pattern, and
+/// [`PatternError::WrongStep`](p3_fs_core::PatternError::WrongStep) where the pattern has another step next. Then
+/// nothing is absorbed, written or read. The pattern's next step is refused with [`TranscriptError::Challenger`] where
+/// the challenger or the alphabet refuses it. It is refused with [`TranscriptError::OutOfMemory`] after a prefix of its
+/// values is absorbed or drawn. All this holds for every step of either side, in addition to the errors of the step.
 ///
-/// A step that is refused leaves the driver finished. It must be spent all the same, by `finalize`, by `finish` or by
+/// A refused step leaves the driver finished. The driver must still be spent, by `finalize`, by `finish` or by
 /// [`abort`](DriverState::abort).
 ///
-/// In the Rust crate prover and verifier are two types.
+/// In the Rust crate the prover and the verifier are two types.
 #[derive_where(Debug; C, P)]
 pub struct DriverState<C, U, D: DigestHasher, P> {
     challenger: C,
@@ -68,41 +68,43 @@ pub struct DriverState<C, U, D: DigestHasher, P> {
     unit: PhantomData<U>,
 }
 
-/// The prover's side of a transcript: it plays a pattern step by step, and writes the proof.
+/// The prover's side of a transcript: it plays a pattern step by step and writes the proof.
 ///
-/// What is sent is observed by the challenger, and then written into the proof. A hint is written alone.
+/// The challenger observes each value that is sent, and the proof receives it after that. A hint is only written.
 ///
-/// Beside what [`DriverState`] says: with [`TranscriptError::Challenger`] nothing is written, and with
-/// [`TranscriptError::OutOfMemory`] a beginning of the step's bytes.
+/// The errors are those of [`DriverState`]. With [`TranscriptError::Challenger`] nothing is written, and with
+/// [`TranscriptError::OutOfMemory`] a prefix of the step's bytes is written.
 ///
-/// The Rust crate's `ProverState`, which panics where a step is refused here, and where it is dropped unfinished.
+/// Corresponds to the Rust crate's `ProverState`, which panics where a step is refused here, and where it is dropped
+/// unfinished.
 pub type ProverState<C, U, D> = DriverState<C, U, D, Written>;
 
-/// The verifier's side of a transcript: it plays a pattern step by step, and reads the proof.
+/// The verifier's side of a transcript: it plays a pattern step by step and reads the proof.
 ///
-/// The proof is the caller's: steps that read bytes lend them of it. What is read is observed by the challenger, but
-/// for hints: of a list each value before the next one is read.
+/// The proof belongs to the caller, and steps that read bytes borrow them from it. The challenger observes what is
+/// read, except hints. It observes each value of a list before the next one is read.
 ///
-/// Beside what [`DriverState`] says: a step that the pattern has next is refused with
-/// [`TranscriptError::BadProofShape`], where the proof has not what it reads: bytes that are not there are not passed,
-/// and of a single value or of bytes nothing is absorbed, of a list its count and the values before the one that is
-/// none. With [`TranscriptError::OutOfMemory`] an end of the bytes is left unread.
+/// The errors are those of [`DriverState`], and [`TranscriptError::BadProofShape`] where the proof does not have what the
+/// pattern's next step reads. Then no missing byte is consumed, and nothing of a single value or of bytes is absorbed. Of
+/// a list, its count and the values before the invalid one are absorbed. With [`TranscriptError::OutOfMemory`] a suffix
+/// of the bytes is left unread.
 ///
-/// The reason is `NARG ended before all expected bytes were read` where bytes are missing, `message length exceeds
-/// declared maximum` or `hint length exceeds declared maximum` where a count is above its maximum, `step declares more
-/// values than the wire holds` where the bytes left cannot hold a list, and else that of the codec or of the step.
+/// The reason is `NARG ended before all expected bytes were read` where bytes are missing. It is `message length
+/// exceeds declared maximum` or `hint length exceeds declared maximum` where a count is above its maximum. It is `step
+/// declares more values than the wire holds` where the bytes left cannot hold a list. Else it is the reason of the
+/// codec or of the step.
 ///
-/// The Rust crate's `VerifierState`, which panics on a step that is not the next one, and where it is dropped
-/// unfinished.
+/// Corresponds to the Rust crate's `VerifierState`, which panics on a step that is not the next one, and where it is
+/// dropped unfinished.
 pub type VerifierState<'a, C, U, D> = DriverState<C, U, D, Unread<'a>>;
 
 impl<U: Unit, C: CanObserve<U::Item> + Drop, D: DigestHasher> ProverState<C, U, D> {
-    /// A prover of which no step was played yet, with a challenger that has observed the seed of the separator.
+    /// Returns a prover before its first step, whose challenger has observed the seed of the separator.
     ///
     /// Condition: `U` is an alphabet. The errors are
     /// [`ChallengerError::TooLong`](p3_challenger_core::ChallengerError::TooLong) in [`TranscriptError::Challenger`],
-    /// where the seed is too long for the alphabet, and [`TranscriptError::OutOfMemory`]. The challenger is gone
-    /// then. It answers no error in the Rust crate.
+    /// where the seed is too long for the alphabet, and [`TranscriptError::OutOfMemory`]. The challenger is dropped
+    /// then. In the Rust crate this function returns no error.
     pub fn new(
         alloc: Global,
         challenger: C,
@@ -125,8 +127,7 @@ impl<U: Unit, C: CanObserve<U::Item> + Drop, D: DigestHasher> ProverState<C, U, 
 }
 
 impl<'a, U: Unit, C: CanObserve<U::Item> + Drop, D: DigestHasher> VerifierState<'a, C, U, D> {
-    /// A verifier of a proof of which no step was played yet, with a challenger that has observed the seed of the
-    /// separator.
+    /// Returns a verifier of a proof before its first step, whose challenger has observed the seed of the separator.
     ///
     /// The condition and the errors are those of the prover's `new`.
     pub fn new(
@@ -179,16 +180,16 @@ impl<U: Unit, C: CanObserve<U::Item> + Drop, D: DigestHasher, P: Tape> DriverSta
 }
 
 impl<C: Sponge, U, D: DigestHasher, P: Tape> DriverState<C, U, D, P> {
-    /// The challenger.
+    /// Returns the challenger.
     pub fn challenger(&self) -> &C
         ensures { C.state result.now ≡ (played_by C.state self.now).challenger }
     {
         &self.challenger
     }
 
-    /// The challenger, for calls that the caller makes on it besides the steps.
+    /// Returns the challenger by `&mut`, for calls that the caller makes on it between steps.
     ///
-    /// When the loan ends, the driver has the challenger that the caller left, and is as it was in all else: the next
+    /// When the loan ends, the driver has the challenger that the caller left, and is otherwise unchanged. The next
     /// step is played from there, the pattern's order is kept, and the bytes of the proof are those of its steps. The
     /// two sides draw the same challenges only if both callers made the same changes between the same steps.
     pub fn challenger_mut(&mut self) -> &mut C
@@ -199,11 +200,12 @@ impl<C: Sponge, U, D: DigestHasher, P: Tape> DriverState<C, U, D, P> {
         &mut self.challenger
     }
 
-    /// Plays no step any more, as once one was refused: for a caller who needs something of its own between two steps,
-    /// memory say, and is refused it.
+    /// Ends the play, as a refused step does. It is for a caller whose own work between two steps fails, because memory
+    /// is refused, say.
     ///
-    /// Each step, and the end, is refused with [`PatternError::Finished`](p3_fs_core::PatternError::Finished) from then
-    /// on. The challenger stays as it is, and the bytes of the proof. Not in the Rust crate.
+    /// From then on each step, and the end, is refused with
+    /// [`PatternError::Finished`](p3_fs_core::PatternError::Finished). The challenger and the bytes of the proof stay
+    /// as they are. Not in the Rust crate.
     pub fn halt(&mut self)
         ensures transcript { played_by C.state self.new ≡ halted (played_by C.state self.old) }
         ensures bytes { (driving_of C.state P.bytes self.new).bytes
@@ -214,7 +216,8 @@ impl<C: Sponge, U, D: DigestHasher, P: Tape> DriverState<C, U, D, P> {
 }
 
 impl<C: Sponge + Drop, U, D: DigestHasher, P: Tape> DriverState<C, U, D, P> {
-    /// Gives up, and spends the driver. What was played so far is not checked. The Rust crate takes it by reference.
+    /// Gives up and spends the driver, without a check of what was played. The Rust crate takes the driver by
+    /// reference.
     pub fn abort(self) {
         let DriverState {
             challenger: _,
@@ -228,7 +231,7 @@ impl<C: Sponge + Drop, U, D: DigestHasher, P: Tape> DriverState<C, U, D, P> {
 }
 
 impl<C: Sponge + Drop, U, D: DigestHasher> ProverState<C, U, D> {
-    /// The bytes of the proof so far.
+    /// Returns the bytes of the proof so far.
     pub fn narg(&self) -> &[u8]
         ensures narg { result.now ≡ (proving_of C.state self.now).bytes }
         ensures bytes { AreBytes result.now }
@@ -238,12 +241,12 @@ impl<C: Sponge + Drop, U, D: DigestHasher> ProverState<C, U, D> {
         narg
     }
 
-    /// Spends the prover, for the bytes of the proof. It answers `Ok` exactly where no step was refused and none is
-    /// left.
+    /// Spends the prover and returns the bytes of the proof. The result is `Ok` exactly where no step was refused and
+    /// none is left.
     ///
     /// Else the error is [`PatternError::Finished`](p3_fs_core::PatternError::Finished) where a step was refused, and
-    /// [`PatternError::Unplayed`](p3_fs_core::PatternError::Unplayed) with the next step where there is one. It takes
-    /// no memory. The Rust crate panics in their place.
+    /// [`PatternError::Unplayed`](p3_fs_core::PatternError::Unplayed) with the next step where one is left. This call
+    /// takes no memory. The Rust crate panics in place of both errors.
     pub fn finalize(self) -> Result<Vec<u8>, TranscriptError>
         ensures ok { IfOk result (λ narg. IsPlayed (proving_of C.state self).transcript.playing
             × (narg.items ≡ (proving_of C.state self).bytes)) }
@@ -254,7 +257,8 @@ impl<C: Sponge + Drop, U, D: DigestHasher> ProverState<C, U, D> {
         Ok(narg)
     }
 
-    /// Spends the prover as [`finalize`](ProverState::finalize) does, for the bytes of the proof and the challenger.
+    /// Spends the prover as [`finalize`](ProverState::finalize) does, and returns the bytes of the proof and the
+    /// challenger.
     ///
     /// The errors are those of [`finalize`](ProverState::finalize). Not in the Rust crate.
     pub fn finish(self) -> Result<(Vec<u8>, C), TranscriptError>
@@ -277,7 +281,7 @@ impl<C: Sponge + Drop, U, D: DigestHasher> ProverState<C, U, D> {
 }
 
 impl<'a, C: Sponge + Drop, U, D: DigestHasher> VerifierState<'a, C, U, D> {
-    /// How many bytes of the proof are left to read.
+    /// Returns how many bytes of the proof are left to read.
     pub fn remaining_narg(&self) -> usize
         ensures { result ≡ length (verifying_of C.state self.now).bytes }
     {
@@ -285,7 +289,7 @@ impl<'a, C: Sponge + Drop, U, D: DigestHasher> VerifierState<'a, C, U, D> {
         unread.len()
     }
 
-    /// The bytes of the proof that are left to read. Not in the Rust crate.
+    /// Returns the bytes of the proof that are left to read. Not in the Rust crate.
     pub fn unread(&self) -> &'a [u8]
         ensures unread { result.now ≡ (verifying_of C.state self.now).bytes }
         ensures bytes { AreBytes result.now }
@@ -294,13 +298,13 @@ impl<'a, C: Sponge + Drop, U, D: DigestHasher> VerifierState<'a, C, U, D> {
         self.tape.bytes
     }
 
-    /// Spends the verifier. It answers `Ok` exactly where no step was refused, none is left, and the proof is read
-    /// whole.
+    /// Spends the verifier. The result is `Ok` exactly where no step was refused, none is left, and the whole proof was
+    /// read.
     ///
-    /// Else the error is [`PatternError::Finished`](p3_fs_core::PatternError::Finished) where a step was refused,
-    /// [`PatternError::Unplayed`](p3_fs_core::PatternError::Unplayed) with the next step where there is one, and then
-    /// [`TranscriptError::BadProofShape`] with `trailing NARG bytes after final verifier step` where bytes are left.
-    /// It takes no memory. The Rust crate panics in place of the first two.
+    /// Else the error is [`PatternError::Finished`](p3_fs_core::PatternError::Finished) where a step was refused. It is
+    /// [`PatternError::Unplayed`](p3_fs_core::PatternError::Unplayed) with the next step where one is left. Where only
+    /// bytes are left, it is [`TranscriptError::BadProofShape`] with `trailing NARG bytes after final verifier step`.
+    /// This call takes no memory. The Rust crate panics in place of the first two.
     pub fn finalize(self) -> Result<(), TranscriptError>
         ensures ok { OnOk result (EndsReading (verifying_of C.state self.entry)) }
         ensures err { IfErr result (RefusesEnd (verifying_of C.state self.entry)) }
@@ -310,7 +314,7 @@ impl<'a, C: Sponge + Drop, U, D: DigestHasher> VerifierState<'a, C, U, D> {
         Ok(())
     }
 
-    /// Spends the verifier as [`finalize`](VerifierState::finalize) does, for the challenger.
+    /// Spends the verifier as [`finalize`](VerifierState::finalize) does, and returns the challenger.
     ///
     /// The errors are those of [`finalize`](VerifierState::finalize). Not in the Rust crate.
     pub fn finish(self) -> Result<C, TranscriptError>

@@ -1,4 +1,4 @@
-//! The two drivers of a transcript: one state over a proof, which a prover writes and a verifier reads.
+//! The two drivers of a transcript: one state over a proof that a prover writes and a verifier reads.
 #![tactic(auto)]
 
 mod driver;

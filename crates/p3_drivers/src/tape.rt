@@ -1,7 +1,7 @@
-//! The proof, as each of the two drivers has it.
+//! The proof in the form of each driver.
 ghost use Rattle.std.specs.Prelude.{List, ℕ};
 
-/// The bytes of a proof, as a driver has them. For the drivers alone: users are not shown it. Not in the Rust crate.
+/// The bytes of a proof in the form of a driver. This trait is internal to the drivers. Not in the Rust crate.
 pub trait Tape: Drop {
     // The bytes that were written, or that are left to read.
     ghost bytes: { Self → List ℕ };
@@ -13,7 +13,7 @@ pub struct Written {
     pub(crate) narg: Vec<u8>,
 }
 
-/// The bytes that a verifier has left to read, which are the caller's. Not in the Rust crate.
+/// The bytes that a verifier has left to read, borrowed from the caller. Not in the Rust crate.
 #[derive(Debug, Drop)]
 pub struct Unread<'a> {
     pub(crate) bytes: &'a [u8],

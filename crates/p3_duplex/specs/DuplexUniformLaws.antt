@@ -1,4 +1,4 @@
--- Laws of uniform bits that are drawn from a duplex challenger.
+-- Laws of uniform bits drawn from a duplex challenger.
 use Rattle.std.{specs.Prelude.Result, proofs.Common.{◌≡◌, ℕ, zero, suc, ◌<◌, ◌≤◌, ◌+◌, ◌-◌, ◌/◌, ◌%◌, ◌^◌, Bool, true}}
 use Rattle.std.proofs.Common.{false, List, [], ◌∷◌, Some, None, inl, inr, nat_eq, nat_lt, if◌then◌else◌, refl, sym, ap}
 use Rattle.std.{proofs.{Common.{ap₂, ◌∙◌, subst, arith, rules, cond}, Math.Nat.mod-eq_of_lt}, specs.Option.option_map}
@@ -46,7 +46,7 @@ counted-same f g bound a (suc n) within same =
     (counted-same f g bound (a + 1) n (omega (arith, within)) same)
     ∙ sym (sum_by-cons (λ x. cond (g x) 1 0) a (range_with_len (a + 1) n))
 
--- each value of the bits is given by equally many elements below the bound
+-- each value of the bits comes from equally many elements below the bound
 pub elements-shared : {F : Type 0} (r : Residues F) → IsResidues r → (bits value : ℕ) → value < 2 ^ bits
     → how_many_give r bits value ≡ uniform_bound r.order bits / 2 ^ bits
 elements-shared r laws bits value small =
@@ -70,7 +70,7 @@ module _ {F P : Type 0} (r : Residues F) (permute : P → List F → List F) (ra
       subst (λ z. r.number z < bound) same (under (r.number x) bound is)
   kept-below false bound x y is e = search (rules, e)
 
-  -- the element that is taken is below the bound
+  -- the taken element is below the bound
   pub taken-below : (resample : Bool) (bits : ℕ) (c : DuplexState F P) (x : F)
       → taken_element r permute rate resample bits c ≡ Some x → r.number x < uniform_bound r.order bits
   taken-below true bits c x e =
@@ -86,7 +86,7 @@ module _ {F P : Type 0} (r : Residues F) (permute : P → List F → List F) (ra
   kept-low_bits true bits x = refl
   kept-low_bits false bits x = refl
 
-  -- a draw of bits of one element gives the low ones of the element that is taken
+  -- bits of one element are the low bits of the taken element
   single-taken : (resample : Bool) (bits : ℕ) (c : DuplexState F P)
       → (single r permute rate resample bits).draw.sampled c
       ≡ option_map (low_bits r bits) (taken_element r permute rate resample bits c)
@@ -146,7 +146,7 @@ module _ {F P : Type 0} (r : Residues F) (permute : P → List F → List F) (ra
     uniform_bits-below most_of_one (suc more) c x drawn =
         in_parts-below (nat_lt most_of_one (suc more)) (suc more) c x drawn
 
-    -- such draws take no memory
+    -- draws of bits of one element take no memory
     single-takes_no_memory : (bits : ℕ) (c d : DuplexState F P)
         → ¬ ((single r permute rate resample bits).draw.may_leave c d)
     single-takes_no_memory bits c d = one-takes_no_memory resample (uniform_bound r.order bits) bits c d
@@ -164,7 +164,7 @@ module _ {F P : Type 0} (r : Residues F) (permute : P → List F → List F) (ra
     uniform_bits-take_no_memory most_of_one (suc more) c d h =
         in_parts-takes_no_memory (nat_lt most_of_one (suc more)) (suc more) c d h
 
-    -- nor does a check of a witness by them
+    -- a check of a witness by uniform bits takes no memory
     pub check-takes_no_memory : (most_of_one bits : ℕ) (witness : F) (c d : DuplexState F P)
         → ¬ ((check_of draws_nothing (unrefused_observe (λ x. x ∷ []) (observed r permute rate))
         (zero_and_uniform (uniform_bits r permute rate resample most_of_one bits)) bits witness).may_leave c d)
@@ -174,7 +174,7 @@ module _ {F P : Type 0} (r : Residues F) (permute : P → List F → List F) (ra
     check-takes_no_memory most_of_one (suc more) witness c d (inr (is, inr tested)) =
         uniform_bits-take_no_memory most_of_one (suc more) (observed r permute rate c witness) d tested
 
-    -- as few bits as one element serves for are the low ones of the element that is taken
+    -- if one element suffices, the bits are the low bits of the taken element
     pub uniform_bits-taken : (most_of_one bits : ℕ) (c : DuplexState F P) → 0 < bits → bits ≤ most_of_one
         → (uniform_bits r permute rate resample most_of_one bits).draw.sampled c
         ≡ option_map (low_bits r bits) (taken_element r permute rate resample bits c)
@@ -183,7 +183,7 @@ module _ {F P : Type 0} (r : Residues F) (permute : P → List F → List F) (ra
         ap (λ b. (in_parts r permute rate resample b (suc more)).draw.sampled c) (not_more most_of_one (suc more) few)
         ∙ single-taken resample (suc more) c
 
-    -- as few bits as one element serves for are drawn from one
+    -- if one element suffices, the bits are drawn from one
     pub uniform_bits-one : (most_of_one bits : ℕ) → 0 < bits → bits ≤ most_of_one
         → SameDraw (uniform_bits r permute rate resample most_of_one bits) (single r permute rate resample bits)
     uniform_bits-one most_of_one zero some few = absurd (omega (arith, some))
@@ -192,7 +192,7 @@ module _ {F P : Type 0} (r : Residues F) (permute : P → List F → List F) (ra
         (single r permute rate resample (suc more)))
         (sym (not_more most_of_one (suc more) few)) (same_draw (single r permute rate resample (suc more)))
 
-    -- and more of them in halves
+    -- more bits than that are drawn in halves
     pub uniform_bits-halved : (most_of_one bits : ℕ) → most_of_one < bits
         → SameDraw (uniform_bits r permute rate resample most_of_one bits) (halved r permute rate resample bits)
     uniform_bits-halved most_of_one zero more = absurd (omega (arith, more))
@@ -208,7 +208,7 @@ module _ {F P : Type 0} (r : Residues F) (permute : P → List F → List F) (ra
         subst (λ b. DrawsUniformly (in_parts r permute rate resample b (suc n)) s result t)
         (sym (more_than most_of_one (suc n) more)) h
 
-  -- a draw that may not draw another value in the place of a rejected one meets no limit
+  -- a draw that does not replace a rejected value meets no limit
 
   in_parts-meets_no_limit : (size : Bool) (bits : ℕ) (c : DuplexState F P)
       → ¬ ((in_parts r permute rate false size bits).draw.meets_limit c)
@@ -222,7 +222,7 @@ module _ {F P : Type 0} (r : Residues F) (permute : P → List F → List F) (ra
   uniform_bits-meet_no_limit most_of_one (suc more) c h =
       in_parts-meets_no_limit (nat_lt most_of_one (suc more)) (suc more) c h
 
-  -- nor does a check of a witness by one
+  -- a check of a witness by such a draw meets no limit
   check-meets_no_limit : (most_of_one bits : ℕ) (witness : F) (c : DuplexState F P)
       → ¬ ((check_of draws_nothing (unrefused_observe (λ x. x ∷ []) (observed r permute rate))
       (zero_and_uniform (uniform_bits r permute rate false most_of_one bits)) bits witness).meets_limit c)
@@ -242,7 +242,7 @@ module _ {F P : Type 0} (r : Residues F) (permute : P → List F → List F) (ra
 
   -- ---- the limit, exactly
 
-  -- bits of one element, where another one may be drawn in the place of a rejected one
+  -- bits of one element, where a rejected value is replaced
   pub single-limit : (bits : ℕ) → MeetsElementLimit r permute rate bits (single r permute rate true bits)
   single-limit bits =
       limit-met_exactly (base_draw r permute rate) (is_below r (uniform_bound r.order bits)) (λ s. refl) (λ s h. h)

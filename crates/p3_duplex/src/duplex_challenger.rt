@@ -1,4 +1,4 @@
-//! The challenger made of a permutation, and what it does with values and arrays.
+//! The challenger over a permutation, with its observations of values and arrays.
 //!
 //! ```text
 //! observe ->  pending values, fewer than RATE
@@ -11,7 +11,7 @@
 //! sample  <-  outputs: the first RATE cells, the last of them first
 //! ```
 //!
-//! An observe drops the outputs that are left. Where nothing is pending, the cells are permuted as they are.
+//! An observation drops the outputs that are left. Where nothing is pending, the cells are permuted as they are.
 ghost use Rattle.std.specs.Prelude.{◌≡◌, ◌<◌, ◌≤◌, ◌+◌, List, [], Some, length, take, refl, ◌∷◌};
 ghost use Rattle.p3_challenger_core.specs.{Segments.{Call, segments}, Observation.unrefused_observe};
 ghost use Rattle.p3_challenger_core.specs.Sampling.{unrefused_draw};
@@ -40,23 +40,22 @@ use p3_symmetric::CryptographicPermutation;
 use std::fmt;
 use std::marker::Model;
 
-/// A challenger made of a permutation of `WIDTH` cells, of which the first `RATE` are the rate.
+/// A challenger over a permutation of `WIDTH` cells, of which the first `RATE` are the rate.
 ///
-/// What is observed is pending until it fills the rate, or until a draw finds no output left. Then it
-/// is absorbed: its values are written over the rate with zeros after them, their number is added to
-/// the cell after the rate, and the cells are permuted. The cells of the rate are then the outputs,
-/// drawn from the last one backwards. An observation drops the outputs left, and a draw that finds
-/// none, and nothing pending, permutes the cells.
+/// Observed values are pending until they fill the rate, or until a draw finds no output left. Then they are absorbed:
+/// they overwrite the rate with zeros after them, and their number is added to the cell after the rate. The cells are
+/// permuted. The cells of the rate are then the outputs, drawn from the last one backwards. An observation drops the
+/// outputs left. A draw with no output left and no value pending permutes the cells.
 ///
-/// No call but [`sample_vec`](CanSample::sample_vec) takes memory. No observe and no draw of a value is refused
-/// besides; a draw of uniform bits may meet the draw limit or reject a value, and a search may find no witness.
+/// Only [`sample_vec`](CanSample::sample_vec) takes memory. No other observation and no other draw of a value is
+/// refused. A draw of uniform bits may meet the draw limit or reject a value, and a search may find no witness.
 ///
-/// A symbol is an element of `F`. A number of some bits is the low bits of one drawn element; one of uniform bits is
-/// that of an element below their bound, or is drawn in two such halves, the low one first, and of no bits is 0 with
-/// nothing drawn. The digest at the end is the `RATE` cells of the rate after one more permutation.
+/// A symbol is an element of `F`. A number of bits is the low bits of one drawn element. A number of uniform bits is
+/// that of an element below their bound, or is drawn in two such halves, low half first. For 0 bits the number is 0,
+/// and nothing is drawn. The final digest is the `RATE` cells of the rate after one more permutation.
 ///
-/// The Rust crate's `DuplexChallenger`, with readers in place of public fields and of vectors. It prints what is
-/// pending and the outputs left by the names that these have there, and shows nothing of what was absorbed.
+/// Corresponds to the Rust crate's `DuplexChallenger`, with getters in place of public fields and of vectors. Its debug
+/// text shows the pending values and the outputs left by their names there, and nothing of what was absorbed.
 #[derive(Drop)]
 pub struct DuplexChallenger<F, P, const WIDTH: usize, const RATE: usize> {
     sponge_state: [F; WIDTH],
@@ -108,16 +107,17 @@ impl<
     const WIDTH: usize,
     const RATE: usize,
 > DuplexChallenger<F, P, WIDTH, RATE> {
-    /// A challenger of zeros, with nothing pending and no output.
+    /// Returns a challenger of zeros, without pending values and outputs.
     ///
-    /// `RATE` is from 1 to 255 and below `WIDTH`. `draw_limit`, at least 1, is for draws that may refuse candidates:
-    /// how many they take at most. A draw of one element takes the first. The Rust crate has no limit.
+    /// `RATE` is from 1 to 255 and below `WIDTH`. `draw_limit`, at least 1, bounds the elements drawn by a draw that
+    /// may reject candidates. A draw of one element takes the first. The Rust crate has no limit.
     ///
-    /// What it permutes tells what it observed, for those who check the permutations and not the calls. Where the order
-    /// of the field exceeds `RATE`, two lists of calls that permute the same states, and leave the same pending, or end
-    /// in a digest, observed the same values. Where they permute equally many states, the same last, and leave the same
-    /// pending, they observed the same values too, or at one place of what they permute stand two different states
-    /// whose images are equal past cell `RATE`, and in cell `RATE` differ by a number from `-RATE` to `RATE`.
+    /// For those who check the permutations and not the calls, the permuted states determine the observed values. Take
+    /// two lists of calls, where the order of the field exceeds `RATE`. If they permute the same states, and leave the
+    /// same pending values or end in a digest, they observed the same values. If they only permute equally many states,
+    /// the same one last, and leave the same pending values, two cases remain. Either they observed the same values, or
+    /// two states at one place collide. Colliding states differ, and their images are equal after cell `RATE`, and
+    /// differ in cell `RATE` by a number from `-RATE` to `RATE`.
     pub fn new(permutation: P, draw_limit: u64) -> Self
         requires rate { 0 < RATE }
         requires capacity { RATE < WIDTH }
@@ -145,10 +145,9 @@ impl<
         }
     }
 
-    /// The segments of calls, whole: from this challenger on, every list of calls gives the answers,
-    /// makes the queries to the permutation, and leaves the sponge, that its segments name; and so
-    /// do calls that end in a digest. No state is left out: a permutation that gives the same on those
-    /// that are queried makes the calls do the same.
+    /// Segments determine all calls. From this challenger on, every list of calls has the results, the queries to the
+    /// permutation and the final sponge that its segments name. So have calls that end in a digest. The queries are
+    /// complete: another permutation with the same results on the queried states gives the same calls.
     ///
     /// A law: the body does nothing, and a caller cites the clauses.
     pub fn follows_segments(&self)
@@ -167,37 +166,37 @@ impl<
         let _ = &self.outputs_left;
     }
 
-    /// The cells: the first `RATE` are the rate, and the others the capacity.
+    /// Returns the cells: the first `RATE` are the rate, and the others the capacity.
     pub fn sponge_state(&self) -> &[F; WIDTH]
         ensures { result.now ≡ self.now.sponge.cells }
     {
         &self.sponge_state
     }
 
-    /// What is pending, in the order in which it was observed.
+    /// Returns the pending values, in the order of their observation.
     pub fn input(&self) -> &[F]
         ensures { result.now ≡ self.now.sponge.pending }
     {
         &self.input_buffer[..self.inputs]
     }
 
-    /// The outputs that are left. The last one is drawn next.
+    /// Returns the outputs that are left. The last one is drawn next.
     pub fn output(&self) -> &[F]
         ensures { result.now ≡ outputs self.now.sponge }
     {
         &self.sponge_state[..self.outputs_left]
     }
 
-    /// The permutation.
+    /// Returns the permutation.
     pub fn permutation(&self) -> &P
         ensures { result.now ≡ self.now.permutation }
     {
         &self.permutation
     }
 
-    /// The same challenger once more. It takes no memory, so it cannot fail.
+    /// Returns a copy of the challenger. The copy takes no memory, so it cannot fail.
     ///
-    /// The Rust crate's `Clone`.
+    /// Corresponds to the Rust crate's `Clone`.
     pub fn clone(&self) -> Self
         ensures { result ≡ self.now }
     {

@@ -1,7 +1,7 @@
-//! The challenger made of a permutation. It draws elements of every vector space over its field, and
-//! so of the field itself, by their coefficients.
+//! The challenger over a permutation. It draws elements of every vector space over its field, by their
+//! coefficients, and so elements of the field itself.
 //!
-//! What is called a law is a function without effect whose contract a caller cites. The Rust crate has none.
+//! A law is a function without effect whose contract a caller cites. The Rust crate has none.
 #![tactic(auto)]
 
 mod duplex_challenger;

@@ -1,4 +1,4 @@
-//! What a duplex challenger feeds is a prefix code: the premises of the laws on symbols.
+//! A duplex challenger feeds a prefix code: the premises of the laws on symbols.
 ghost use Rattle.std.specs.Prelude.{◌≡◌, List, length, ◌++◌};
 ghost use Rattle.p3_challenger_core.specs.Reading.{IsPrefixCode, IsPrefixCodeOn};
 ghost use Rattle.p3_symmetric.specs.{declared.hash.Hash.Hash, Digests.values_of};
@@ -22,8 +22,7 @@ pub fn duplex_elements_are_prefix_code<
         ⟦<DuplexChallenger<F, P, WIDTH, RATE> as CanObserve<F>>⟧.observation.symbols }
 {}
 
-/// Arrays of `N` elements and digests of `N` elements feed symbols that are a prefix code, each among themselves and
-/// both together.
+/// Arrays of `N` elements feed a prefix code. So do digests of `N` elements, and both kinds together.
 ///
 /// A law: the body is empty, and a caller cites the clauses.
 pub fn duplex_arrays_are_prefix_code<

@@ -1,7 +1,7 @@
-//! Prime fields: their elements as residues, the traits that generic code is written against, and
-//! four fields, alone and in lanes.
+//! Prime fields: their elements as residues, the traits for generic code, and four fields, alone
+//! and in lanes.
 //!
-//! This crate has no code of its own: it shows [`p3_field_core`], [`p3_small_primes`],
+//! This crate has no code of its own. It re-exports [`p3_field_core`], [`p3_small_primes`],
 //! [`p3_goldilocks`], [`p3_field_bridge`], and the fields of [`p3_lanes`].
 #![tactic(auto)]
 

@@ -12,7 +12,7 @@ use Rattle.p3_field_bridge.specs.Bridges.{packed, digit_of, AreRadixBits, AreCou
 
 -- ---- counts of bits
 
--- bits that are enough, and more than enough if they were more
+-- the least number of bits that suffices
 pub least_bits : (order bits : ℕ) → order ≤ 2 ^ bits → 2 ^ bits < 2 * order → AreRadixBits order bits
 least_bits order bits enough few = record {
   enough = enough;
@@ -27,7 +27,7 @@ least_bits order bits enough few = record {
 }
 
 module _ (order bits : ℕ) (radix : AreRadixBits order bits) where
-  -- two numbers need a bit
+  -- an order above 1 needs at least one bit
   pub some_bits : 1 < order → 1 ≤ bits
   some_bits above_one = elim (cases_lt 0 bits) [
     | inl some ↦ omega (arith, some)
@@ -40,13 +40,13 @@ module _ (order bits : ℕ) (radix : AreRadixBits order bits) where
   pub at_most_64 : order < 2 ^ 64 → bits ≤ 64
   at_most_64 fits = radix.least 64 (omega (arith, fits))
 
-  -- least counts of one order are the same
+  -- the least number of bits for one order is unique
   pub same_bits : (other : ℕ) → AreRadixBits order other → bits ≡ other
   same_bits other is = omega (arith, radix.least other is.enough, is.least bits radix.enough)
 
 -- ---- counts of elements and of digits
 
--- of a greater order all of it is owed
+-- of a larger order every bound holds
 pub counts_of_greater : (order greater bits absorb squeeze : ℕ) → 1 ≤ absorb → 1 ≤ squeeze
     → 2 ^ (bits * absorb) ≤ greater → order ^ squeeze ≤ greater → AreCounts order greater bits absorb squeeze
 counts_of_greater order greater bits absorb squeeze absorb_one squeeze_one absorb_fits squeeze_fits = record {
@@ -56,7 +56,7 @@ counts_of_greater order greater bits absorb squeeze absorb_one squeeze_one absor
   squeeze_fits = λ _. squeeze_fits;
 }
 
--- of no greater one nothing is
+-- of an order that is not larger nothing is required
 pub counts_of_no_greater : (order other bits absorb squeeze : ℕ) → other ≤ order
     → AreCounts order other bits absorb squeeze
 counts_of_no_greater order other bits absorb squeeze no_greater = record {
@@ -66,7 +66,7 @@ counts_of_no_greater order other bits absorb squeeze no_greater = record {
   squeeze_fits = λ greater. absurd (omega (arith, no_greater, greater));
 }
 
--- a power of two within an order of fewer than 64 bits has a smaller exponent
+-- if a power of two is at most an order of fewer than 64 bits, its exponent is smaller
 exponent_below_64 : (k greater : ℕ) → 2 ^ k ≤ greater → greater < 2 ^ 64 → k < 64
 exponent_below_64 k greater fits small = elim (cases_lt k 64) [
   | inl below ↦ below
@@ -75,7 +75,7 @@ exponent_below_64 k greater fits small = elim (cases_lt k 64) [
       absurd (omega (arith, grown, fits, small))
 ]
 
--- the counts are small
+-- the counts are below 64
 pub counts_below_64 : (order greater bits absorb squeeze : ℕ) → AreRadixBits order bits
     → AreCounts order greater bits absorb squeeze → 1 < order → order < greater → greater < 2 ^ 64
     → (absorb < 64) × (squeeze < 64)
@@ -121,7 +121,7 @@ module _ {F P : Type 0} (inner : Residues F) (outer : Residues P) (inner_laws : 
       All-map (λ n. n < 2 ^ bits) inner.number xs
       (λ k d _. let below = inner_laws.below (get_or xs k d) in omega (arith, below, radix.enough))
 
-  -- what so few elements are packed into is below the order
+  -- the number of so few packed elements is below the order
   pub packed-below : (bits absorb squeeze : ℕ) → AreRadixBits inner.order bits
       → AreCounts inner.order outer.order bits absorb squeeze → inner.order < outer.order
       → (xs : List F) → length xs ≤ absorb → number_in (2 ^ bits) (map inner.number xs) < outer.order
@@ -135,7 +135,7 @@ module _ {F P : Type 0} (inner : Residues F) (outer : Residues P) (inner_laws : 
       let grown : 2 ^ (bits * length xs) ≤ 2 ^ (bits * absorb) = pow_mono few_bits in
       omega (arith, below, power, grown, counts.absorb_fits greater)
 
-  -- equally many elements that are packed into one are the same, if they are so few
+  -- equally many elements packed into the same element are the same, if they are so few
   pub packed-injective : (bits absorb squeeze : ℕ) → AreRadixBits inner.order bits
       → AreCounts inner.order outer.order bits absorb squeeze → inner.order < outer.order
       → (xs ys : List F) → length xs ≡ length ys → length xs ≤ absorb
@@ -161,7 +161,7 @@ module _ {F P : Type 0} (inner : Residues F) (outer : Residues P) (inner_laws : 
       let positive : 0 < inner.order = omega (arith, inner_laws.above_one) in
       mod-lt (n / inner.order ^ place) positive
 
-  -- the digits below a place are the same exactly where the numbers leave the same at it
+  -- the digits below a place are the same exactly where the remainders at that place are
   pub digits-tell : (x y : P) (count : ℕ)
       → ((i : ℕ) → i < count → digit_of inner outer x i ≡ digit_of inner outer y i)
       ↔ (outer.number x % inner.order ^ count ≡ outer.number y % inner.order ^ count)
@@ -176,7 +176,7 @@ module _ {F P : Type 0} (inner : Residues F) (outer : Residues P) (inner_laws : 
             ap inner.of (digits_same inner.order positive (outer.number x) (outer.number y) count same i inside),
       )
 
-  -- elements whose numbers have no more digits are told apart by these
+  -- elements whose numbers have no more digits are determined by these
   pub digits-injective : (x y : P) (count : ℕ) → outer.number x < inner.order ^ count
       → outer.number y < inner.order ^ count
       → ((i : ℕ) → i < count → digit_of inner outer x i ≡ digit_of inner outer y i) → x ≡ y
@@ -184,7 +184,7 @@ module _ {F P : Type 0} (inner : Residues F) (outer : Residues P) (inner_laws : 
       number-injective outer outer_laws x y
       (sym (mod-eq_of_lt x_below) ∙ (digits-tell x y count).0 same ∙ mod-eq_of_lt y_below)
 
-  -- so few elements are the first digits of some element
+  -- any so few elements are the first digits of some element
   pub digits-any : (bits absorb squeeze : ℕ) → AreCounts inner.order outer.order bits absorb squeeze
       → inner.order < outer.order → (xs : List F) → length xs ≤ squeeze
       → (x : P) × ((i : ℕ) (d : F) → i < length xs → digit_of inner outer x i ≡ get_or xs i d)

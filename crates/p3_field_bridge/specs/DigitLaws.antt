@@ -10,7 +10,7 @@ use Rattle.p3_field_bridge.specs.Digits.{digit_sum, number_in, digit_at}
 factored : (base digit power rest : ℕ) → digit * (base * power) + base * rest ≡ base * (digit * power + rest)
 factored base digit power rest = omega arith
 
--- digits that stand one place higher are worth the base times as much
+-- digits one place higher are worth the base times as much
 digit_sum-higher : (base place : ℕ) (digits : List ℕ)
     → digit_sum base (suc place) digits ≡ base * digit_sum base place digits
 digit_sum-higher base place [] = omega arith
@@ -21,7 +21,7 @@ digit_sum-higher base place (digit ∷ digits) =
 once : (digit rest : ℕ) → digit * 1 + rest ≡ rest + digit
 once digit rest = omega arith
 
--- a digit lower than others
+-- a digit below others
 pub number_in-cons : (base digit : ℕ) (digits : List ℕ)
     → number_in base (digit ∷ digits) ≡ base * number_in base digits + digit
 number_in-cons base digit digits =
@@ -40,7 +40,7 @@ one_more-below : (base digit rest power : ℕ) → digit < base → base * suc r
     → base * rest + digit < base * power
 one_more-below base digit rest power small grown = omega (arith, small, grown)
 
--- their number is below the power of the base for so many places
+-- the number of digits below the base is below the base to the number of places
 pub number_in-below : (base : ℕ) (digits : List ℕ) → All (λ d. d < base) digits
     → number_in base digits < base ^ length digits
 number_in-below base [] below = subst (λ (p : ℕ). 0 < p) (sym (pow-zero base)) (omega arith)
@@ -63,7 +63,7 @@ remainder-is base digit rest small =
     let turned : base * rest + digit ≡ rest * base + digit = omega arith in
     ap (λ n. n % base) turned ∙ mod-mul-add rest base digit small
 
--- equally many of one number are the same
+-- equally many digits of the same number are the same
 pub number_in-injective : (base : ℕ) (a b : List ℕ) → All (λ d. d < base) a → All (λ d. d < base) b
     → length a ≡ length b → number_in base a ≡ number_in base b → a ≡ b
 number_in-injective base [] [] a_below b_below same e = refl
@@ -87,13 +87,13 @@ number_in-injective base (x ∷ a) (y ∷ b) a_below b_below same e =
 -- ---- the digits of a number
 
 module _ (base : ℕ) (positive : 0 < base) where
-  -- what so many places leave of a number, and one more: the digit there, and what the lower places leave
+  -- the remainder at the next place: the digit there, and the remainder of the lower places
   one_place : (n count : ℕ)
       → n % base ^ suc count ≡ digit_at base n count * base ^ count + n % base ^ count
   one_place n count =
       ap (λ p. n % p) (pow-succ' base count) ∙ mod-mul n positive (one-le-pow count base positive)
 
-  -- numbers of the same digits below a place leave the same at it
+  -- numbers with the same digits below a place have the same remainder there
   pub same_digits : (n m count : ℕ) → ((i : ℕ) → i < count → digit_at base n i ≡ digit_at base m i)
       → n % base ^ count ≡ m % base ^ count
   same_digits n m zero same =
@@ -105,7 +105,7 @@ module _ (base : ℕ) (positive : 0 < base) where
       ∙ ap₂ (λ d r. d * base ^ count + r) (same count (omega arith)) lower
       ∙ sym (one_place m count)
 
-  -- and the other way round
+  -- numbers with the same remainder at a place have the same digits below it
   pub digits_same : (n m count : ℕ) → n % base ^ count ≡ m % base ^ count
       → (i : ℕ) → i < count → digit_at base n i ≡ digit_at base m i
   digits_same n m zero same i below = absurd (omega (arith, below))
@@ -126,7 +126,7 @@ module _ (base : ℕ) (positive : 0 < base) where
             ap (digit_at base n) is ∙ digit ∙ sym (ap (digit_at base m) is)
       ]
 
--- digits are those of their number
+-- digits are the digits of their number
 pub digit_at-number_in : (base : ℕ) → 0 < base → (digits : List ℕ) → All (λ d. d < base) digits
     → (i : ℕ) → i < length digits → digit_at base (number_in base digits) i ≡ get_or digits i 0
 digit_at-number_in base positive [] below i inside = absurd (omega (arith, inside))

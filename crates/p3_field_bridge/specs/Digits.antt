@@ -1,12 +1,12 @@
--- Numbers by their digits in a base, the lowest digit first.
+-- Numbers by their digits in a base, lowest digit first.
 use Rattle.std.specs.Prelude.{ℕ, suc, ◌+◌, ◌*◌, ◌/◌, ◌%◌, ◌^◌, List, [], ◌∷◌}
 
--- the sum of digits that stand from a place on, each times the power of the base that its place is worth
+-- the sum of digits from a place on, each times the power of the base at its place
 abbrev pub digit_sum : ℕ → ℕ → List ℕ → ℕ
 digit_sum base place [] = 0
 digit_sum base place (digit ∷ digits) = digit * base ^ place + digit_sum base (suc place) digits
 
--- the number that digits are
+-- the number of a list of digits
 abbrev pub number_in : ℕ → List ℕ → ℕ
 number_in base digits = digit_sum base 0 digits
 

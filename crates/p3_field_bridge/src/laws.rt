@@ -1,12 +1,12 @@
-//! What follows of every bridge.
+//! Laws of every bridge.
 ghost use Rattle.std.specs.Prelude.{◌≡◌, ℕ, ◌^◌, ◌%◌, ◌<◌, ◌≤◌, ◌↔◌, List, length, slice_index_or};
 ghost use Rattle.p3_field_bridge.specs.Bridges.{packed, digit_of};
 
 use crate::FieldBridge;
 use p3_field_core::PrimeField64;
 
-/// Where the order of `F` is below that of `PF`, equally many elements, no more than are packed into one, are told
-/// apart by the element that they are packed into.
+/// Packing is injective, where the order of `F` is below that of `PF`. Equally many elements, no more than are packed
+/// into one, are determined by the element that they are packed into.
 ///
 /// A law: the body is empty, and a caller cites the clause.
 pub fn packing_is_injective<F: PrimeField64, PF: PrimeField64, B: FieldBridge<F, PF>>()
@@ -15,9 +15,9 @@ pub fn packing_is_injective<F: PrimeField64, PF: PrimeField64, B: FieldBridge<F,
         ≡ packed F.residues PF.residues B.RADIX_BITS ys → xs ≡ ys }
 {}
 
-/// The first digits of two elements are the same exactly where their canonical numbers leave the same modulo the
-/// power of the order for so many digits. So two elements whose numbers are below that power are told apart by
-/// these digits.
+/// The first digits of two elements are the same exactly where their canonical numbers have the same remainder. The
+/// modulus is the order to the number of digits. So elements whose numbers are below that power are
+/// determined by these digits.
 ///
 /// A law: the body is empty, and a caller cites the clauses.
 pub fn digits_tell_elements<F: PrimeField64, PF: PrimeField64>()
@@ -30,8 +30,8 @@ pub fn digits_tell_elements<F: PrimeField64, PF: PrimeField64>()
         digit_of F.residues PF.residues x i ≡ digit_of F.residues PF.residues y i) → x ≡ y }
 {}
 
-/// Where the order of `F` is below that of `PF`, any elements of `F`, no more than digits are drawn from one element,
-/// are the first digits of some element of `PF`.
+/// Digits are arbitrary, where the order of `F` is below that of `PF`. Any elements of `F`, no more than the digits
+/// drawn from one element, are the first digits of some element of `PF`.
 ///
 /// A law: the body is empty, and a caller cites the clause.
 pub fn digits_are_any<F: PrimeField64, PF: PrimeField64, B: FieldBridge<F, PF>>()

@@ -1,6 +1,7 @@
-//! Bridges between prime fields: elements of one packed into an element of another, and an element's digits.
+//! Bridges between prime fields: elements of one packed into an element of another, and the digits of an
+//! element.
 //!
-//! What is called a law is a function without effect whose contract a caller cites. The Rust crate has none.
+//! A law is a function without effect whose contract a caller cites. The Rust crate has none.
 #![tactic(auto)]
 
 mod baby_bear_in_baby_bear;

@@ -1,4 +1,4 @@
--- What holds of the coefficients of an element: of an array of them, and of an element of the base field.
+-- Laws of the coefficients of an element: of an array of them, and of an element of the base field.
 use Rattle.std.{specs.Prelude.{◌≡◌, ℕ, ◌≤◌, Bool, List, [], ◌∷◌, length, replicate, refl}, proofs.Math.Nat.ℕ_set}
 use Rattle.std.proofs.{Common.{◌∙◌, ap, arith}, lemmas.List.{take-append-le, take_all}}
 use Rattle.std.specs.Cmp.Lexicographic.{pointwise, pointwise_decides}
@@ -9,7 +9,7 @@ use Rattle.p3_field_core.specs.{CoeffsCoefficients.{coefficients_of, element_of}
 pub length-coefficients : {F : Type 0} {D : ℕ} (x : Coeffs F D) → length (coefficients_of x) ≡ D
 length-coefficients x = x.full
 
--- elements of the same coefficients are one
+-- elements with the same coefficients are equal
 pub coefficients-injective : {F : Type 0} {D : ℕ} (x y : Coeffs F D) → coefficients_of x ≡ coefficients_of y → x ≡ y
 coefficients-injective {F} {D} x y e =
     λ i. record {
@@ -17,7 +17,7 @@ coefficients-injective {F} {D} x y e =
       full = is_prop→PathP (λ j. length (e j) ≡ D) (λ j. ℕ_set (length (e j)) D) x.full y.full i;
     }
 
--- elements compare equal exactly where they are one, if coefficients do
+-- elements compare equal exactly where they are the same, if coefficients do
 pub compared-by-coefficients : {F : Type 0} {D : ℕ} {eq : F → F → Bool} → IsExact eq
     → IsExact (λ (x y : Coeffs F D). pointwise eq (coefficients_of x) (coefficients_of y))
 compared-by-coefficients exact = exact-by coefficients_of (pointwise_decides exact) coefficients-injective

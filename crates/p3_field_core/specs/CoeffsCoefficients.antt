@@ -6,7 +6,7 @@ use Rattle.p3_field_core.specs.declared.coeffs.Coeffs.{Coeffs}
 abbrev pub coefficients_of : {F : Type 0} {D : ℕ} → Coeffs F D → List F
 coefficients_of x = x.coefficients
 
--- the coefficients of an element of dimension D: the list cut or filled up with zeros
+-- the coefficients of an element of dimension D: the list cut off or filled with zeros
 abbrev pub cut_to : {F : Type 0} → F → ℕ → List F → List F
 cut_to nought D xs = take D (xs ++ replicate D nought)
 

@@ -4,7 +4,7 @@ use Rattle.std.proofs.{lemmas.Bool.cases_lt, Common.{◌≡◌, ◌≢◌, ℕ, 
 use Rattle.std.proofs.Common.{◌++◌, Bool, true, false, cond, nat_eq, ◌⊎◌, inl, inr, refl, sym, ap, ◌∙◌, subst, arith}
 use Rattle.std.{proofs.lemmas.{Bool.Decides.nat_tests, List.Sums.sum_by_push}, specs.List.{count_by, range_with_len}}
 
--- one number more
+-- one more number in the range
 range-last : (from count : ℕ) → range_with_len from (suc count) ≡ range_with_len from count ++ (from + count) ∷ []
 range-last from zero = let here : from ≡ from + 0 = omega arith in ap (λ n. n ∷ []) here
 range-last from (suc count) =
@@ -12,16 +12,16 @@ range-last from (suc count) =
     ap (λ ns. from ∷ ns) (range-last (from + 1) count)
     ∙ ap (λ n. from ∷ (range_with_len (from + 1) count ++ n ∷ [])) end
 
--- what is counted of numbers so far, where the next one leaves r
+-- how many of the numbers so far leave the value, where the next one leaves r
 abbrev Counted : ℕ → ℕ → ℕ → ℕ → Type 0
 Counted value quotient r count = ((value < r) × (count ≡ quotient + 1)) ⊎ ((r ≤ value) × (count ≡ quotient))
 
--- the next number leaves one more, or it begins anew
+-- the next number leaves one more, or it leaves 0
 abbrev Next : ℕ → ℕ → ℕ → ℕ → ℕ → Type 0
 Next m quotient r quotient' r' =
     ((r' ≡ suc r) × (quotient' ≡ quotient)) ⊎ ((suc r ≡ m) × (r' ≡ 0) × (quotient' ≡ quotient + 1))
 
--- it is counted where it leaves the value
+-- the number is counted if it leaves the value
 abbrev Tested : ℕ → ℕ → ℕ → ℕ → Type 0
 Tested value r count count' = ((r ≡ value) × (count' ≡ count + 1)) ⊎ ((r ≢ value) × (count' ≡ count))
 
@@ -92,7 +92,7 @@ module _ (m value : ℕ) (small : value < m) where
       counted-next m value (n / m) (n % m) (suc n / m) (suc n % m) (counted n) (counted (suc n)) small
       (quotient-next n) (tested n) (counted-is n)
 
-  -- below a multiple there are as many as it is a multiple
+  -- below a multiple of the modulus each remainder occurs equally often
   pub counted-whole : (n : ℕ) → n % m ≡ 0 → counted n ≡ n / m
   counted-whole n whole = elim (counted-is n) [
     | inl past ↦ absurd (omega (arith, past.0, whole))

@@ -1,7 +1,7 @@
 -- Residues: the elements of a prime field as numbers below its order.
 use Rattle.std.specs.Prelude.{◌≡◌, ℕ, ◌+◌, ◌-◌, ◌*◌, ◌%◌, ◌^◌, ◌<◌}
 
--- the order of a field, the canonical number of an element, and the element that a number is modulo the order
+-- the order of a field, the canonical number of an element, and the element of a number modulo the order
 pub record Residues (F : Type 0) : Type 0 where
   pub order : ℕ
   pub number : F → ℕ
@@ -17,7 +17,7 @@ pub record IsResidues {F : Type 0} (r : Residues F) : Type 0 where
 abbrev pub sum_of : {F : Type 0} → Residues F → F → F → F
 sum_of r x y = r.of (r.number x + r.number y)
 
--- an element and a number
+-- the sum of an element and a number
 abbrev pub plus : {F : Type 0} → Residues F → F → ℕ → F
 plus r x n = sum_of r x (r.of n)
 

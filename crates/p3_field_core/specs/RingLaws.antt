@@ -6,7 +6,7 @@ use Rattle.p3_field_core.specs.Residues.{Residues, IsResidues, sum_of, differenc
 use Rattle.p3_field_core.specs.{ResidueLaws.of-same, Rings.IsRing}
 
 module _ {F : Type 0} (r : Residues F) (laws : IsResidues r) where
-  -- in a sum, the element of a number counts as the number
+  -- in a sum, the element of a number may be replaced by the number
   sum-left : (n : ℕ) (y : F) → sum_of r (r.of n) y ≡ r.of (n + r.number y)
   sum-left n y =
       of-same r laws (r.number (r.of n) + r.number y) (n + r.number y)
@@ -33,7 +33,7 @@ module _ {F : Type 0} (r : Residues F) (laws : IsResidues r) where
   sum-zero : (x : F) → sum_of r x (r.of 0) ≡ x
   sum-zero x = sum-right x 0 ∙ ap r.of (add-zero (r.number x)) ∙ laws.of_number x
 
-  -- a number and the order more
+  -- the order may be added to a number
   of-more : (x : F) (n : ℕ) → n ≡ r.number x + r.order → r.of n ≡ x
   of-more x n e =
       ap r.of e ∙ of-same r laws (r.number x + r.order) (r.number x) (add-mod_right (r.number x) r.order)
@@ -58,7 +58,7 @@ module _ {F : Type 0} (r : Residues F) (laws : IsResidues r) where
   sum-cancels : (x y z : F) → sum_of r x z ≡ sum_of r y z → x ≡ y
   sum-cancels x y z e = sym (added-taken x z) ∙ ap (λ s. difference_of r s z) e ∙ added-taken y z
 
-  -- what gives x with y is their difference
+  -- the element that gives x with y is their difference
   difference-is : (x y z : F) → sum_of r z y ≡ x → z ≡ difference_of r x y
   difference-is x y z e = sum-cancels z (difference_of r x y) y (e ∙ sym (taken-added x y))
 
@@ -80,7 +80,7 @@ module _ {F : Type 0} (r : Residues F) (laws : IsResidues r) where
   product-commutes : (x y : F) → product_of r x y ≡ product_of r y x
   product-commutes x y = ap r.of (mul_comm (r.number x) (r.number y))
 
-  -- in a product, the element of a number counts as the number
+  -- in a product, the element of a number may be replaced by the number
   product-left : (n : ℕ) (y : F) → product_of r (r.of n) y ≡ r.of (n * r.number y)
   product-left n y =
       of-same r laws (r.number (r.of n) * r.number y) (n * r.number y)

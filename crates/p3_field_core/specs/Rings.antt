@@ -1,4 +1,4 @@
--- Rings of residues: what holds of sums, differences and products, whatever the elements are.
+-- Rings of residues: laws of sums, differences and products that hold for any type of elements.
 use Rattle.std.specs.Prelude.{◌≡◌, ℕ, ◌+◌, ◌-◌, ◌*◌, ◌^◌, ◌≤◌}
 use Rattle.p3_field_core.specs.Residues.{Residues, sum_of, difference_of, product_of, power_of}
 
@@ -25,7 +25,7 @@ pub record IsRing {F : Type 0} (r : Residues F) : Type 0 where
   pub product_with_one : (x : F) → product_of r x (r.of 1) ≡ x
   pub product_with_zero : (x : F) → product_of r x (r.of 0) ≡ r.of 0
   pub product_with_last : (x : F) → product_of r x (r.of (r.order - 1)) ≡ difference_of r (r.of 0) x
-  -- both
+  -- both sums and products
   pub product_with_sum : (x y z : F) → product_of r x (sum_of r y z) ≡ sum_of r (product_of r x y) (product_of r x z)
   pub product_with_difference : (x y z : F) →
       product_of r x (difference_of r y z) ≡ difference_of r (product_of r x y) (product_of r x z)

@@ -1,4 +1,4 @@
--- The room that an element takes.
+-- The size of an element in memory.
 use Rattle.std.specs.Prelude.{◌≤◌, ◌^◌}
 use prog.Memory.{size}
 use denote.{RattleType.RattleType, Param.layout}

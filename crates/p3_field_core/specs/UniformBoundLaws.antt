@@ -10,7 +10,7 @@ bound-within order bits = mul-div-le order (2 ^ bits)
 pub bound-whole : (order bits : ℕ) → uniform_bound order bits % 2 ^ bits ≡ 0
 bound-whole order bits = mul-mod_right (2 ^ bits) (order / 2 ^ bits)
 
--- it is above 0 where the power is within the order
+-- the bound is positive if the power of two is at most the order
 pub bound-positive : (order bits most : ℕ) → 2 ^ most ≤ order → bits ≤ most → 0 < uniform_bound order bits
 bound-positive order bits most within few =
     let power = 2 ^ bits in
@@ -28,7 +28,7 @@ bound-positive order bits most within few =
           absurd (omega (arith, below, least, grown, within))
     ]
 
--- of more bits than a word has it is 0
+-- for at least 64 bits the bound is 0
 pub bound-none : (order bits : ℕ) → order < 2 ^ 64 → 64 ≤ bits → uniform_bound order bits ≡ 0
 bound-none order bits fits many =
     let grown : 2 ^ 64 ≤ 2 ^ bits = pow_mono many in
@@ -36,7 +36,8 @@ bound-none order bits fits many =
     let nothing : 2 ^ bits * 0 ≡ 0 = omega arith in
     ap (λ q. 2 ^ bits * q) none ∙ nothing
 
--- each value of the low bits is that of as many numbers below the bound as the bound is powers
+-- each value of the low bits comes from equally many numbers below the bound: the bound divided by
+-- the power of two
 pub bound-shared : (order bits value : ℕ) → value < 2 ^ bits
     → how_many_have (uniform_bound order bits) bits value ≡ uniform_bound order bits / 2 ^ bits
 bound-shared order bits value small =

@@ -1,8 +1,8 @@
 -- Numbers whose low bits are uniform.
 use Rattle.std.specs.{Prelude.{ℕ, ◌*◌, ◌/◌, ◌%◌, ◌^◌, nat_eq}, List.{count_by, range_with_len}}
 
--- the greatest multiple of a power of two that is at most an order: below it each value of so many low bits is that of
--- equally many numbers
+-- the greatest multiple of a power of two that is at most the order; below it each value of the low bits occurs
+-- equally often
 abbrev pub uniform_bound : ℕ → ℕ → ℕ
 uniform_bound order bits = 2 ^ bits * (order / 2 ^ bits)
 

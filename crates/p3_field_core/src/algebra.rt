@@ -1,4 +1,4 @@
-//! Vector spaces over a field and algebras, by their coefficients; a field is one over itself.
+//! Vector spaces and algebras over a field, by their coefficients. A field is an algebra over itself.
 ghost use Rattle.std.specs.Prelude.{◌≡◌, ℕ, ◌-◌, ◌<◌, ◌≤◌, List, ◌∷◌, length, replicate, slice_set, [], refl};
 ghost use Rattle.std.proofs.Common.{lit<, lit≤};
 ghost use Rattle.p3_field_core.specs.{Equality.IsExact, Coefficients.element_of_one};
@@ -6,14 +6,14 @@ ghost use Rattle.p3_field_core.specs.CoefficientLaws.{coefficients-element_of_on
 
 use crate::{Field, PrimeCharacteristicRing};
 
-/// A vector space over a field, on a basis: an element is its list of coefficients. Elements compare equal
-/// exactly where they are one element.
+/// A vector space over a field with a basis: an element is its list of coefficients. Elements compare equal exactly
+/// where they are the same.
 ///
-/// `p3-field`'s `BasedVectorSpace`. There an element is made of a function or an iterator; here of
-/// [`zero`](BasedVectorSpace::zero) and [`with_coefficient`](BasedVectorSpace::with_coefficient), and a space is
-/// `Copy`.
+/// Corresponds to `p3-field`'s `BasedVectorSpace`. That trait makes an element from a function or an iterator. This one
+/// makes it with [`zero`](BasedVectorSpace::zero) and [`with_coefficient`](BasedVectorSpace::with_coefficient), and a
+/// space is `Copy`.
 pub trait BasedVectorSpace<F: PrimeCharacteristicRing>: Copy + PartialEq {
-    /// How many coefficients an element has: from 1 to 65535.
+    /// The number of coefficients of an element: from 1 to 65535.
     const DIMENSION: usize;
 
     ghost DIMENSION: { ℕ };
@@ -24,15 +24,16 @@ pub trait BasedVectorSpace<F: PrimeCharacteristicRing>: Copy + PartialEq {
     // The element of as many coefficients as the dimension.
     ghost element: { List F → Self };
 
-    /// The coefficients, in the order of the basis: as many as the dimension.
+    /// Returns the coefficients, in the order of the basis: as many as the dimension.
     fn as_basis_coefficients_slice(&self) -> &[F]
         ensures { result.now ≡ coefficients self.now };
 
-    /// The element whose coefficients are all 0. Not in `p3-field`'s trait.
+    /// Returns the element whose coefficients are all 0. Not in `p3-field`'s trait.
     fn zero() -> Self
         ensures { coefficients result ≡ replicate DIMENSION (F.residues.of 0) };
 
-    /// The element with one coefficient replaced, at a place below the dimension. Not in `p3-field`'s trait.
+    /// Returns the element with one coefficient replaced, at a place below the dimension. Not in `p3-field`'s
+    /// trait.
     fn with_coefficient(self, index: usize, value: F) -> Self
         requires { index < DIMENSION }
         ensures { coefficients result ≡ slice_set (coefficients self) index value };
@@ -53,37 +54,37 @@ pub trait BasedVectorSpace<F: PrimeCharacteristicRing>: Copy + PartialEq {
     ghost coefficients_element: { (xs : List F) → length xs ≡ DIMENSION → coefficients (element xs) ≡ xs };
 }
 
-/// A vector space that the field lies in: a value of the field is the element with this value as its
-/// coefficient 0, and no other.
+/// A vector space that contains the field: a value of the field is the element with this value as coefficient 0 and
+/// zeros elsewhere.
 ///
-/// `p3-field`'s `Algebra`.
+/// Corresponds to `p3-field`'s `Algebra`.
 pub trait Algebra<F: PrimeCharacteristicRing>: BasedVectorSpace<F> + From<F> {
     ghost from_law: { (value : F) (x : Self) → Self.from_gives value x →
         Self.coefficients x ≡ value ∷ replicate (Self.DIMENSION - 1) (F.residues.of 0) };
 }
 
-/// An algebra that says which one it is.
+/// An algebra with a text that identifies it.
 ///
-/// `p3-field`'s `AlgebraIdentity`. The texts are this repository's own, so that digests of typed transcripts differ
-/// from the Rust crate's.
+/// Corresponds to `p3-field`'s `AlgebraIdentity`. The texts are this repository's own, so digests of typed transcripts
+/// differ from the Rust crate's.
 pub trait AlgebraIdentity<F: PrimeCharacteristicRing>: Algebra<F> {
     // The bytes of the identity.
     ghost identity: { List ℕ };
 
-    /// A text of its own for each algebra: its construction, with the order of the field.
+    /// Returns the text that identifies the algebra: its construction, with the order of the field.
     fn algebra_id() -> &'static [u8]
         ensures { result.now ≡ identity };
 }
 
-/// A field with a named extension of dimension `D`: the polynomials modulo `X^D - w`, for a `w` of the field. An
+/// A field with a named extension of dimension `D`: the polynomials modulo `X^D - w`, for some `w` of the field. An
 /// element of the extension is an array of `D` coefficients.
 ///
-/// Named after `p3-field`'s `BinomiallyExtendable`. It says which extension is meant, and no more.
+/// Named after `p3-field`'s `BinomiallyExtendable`. The trait only identifies the extension.
 pub trait BinomiallyExtendable<const D: usize>: Field {
     // The bytes of the identity of the extension.
     ghost extension_identity: { List ℕ };
 
-    /// A text of its own for the extension: its construction, with the order of the field, `D` and `w`.
+    /// Returns the text that identifies the extension: its construction, with the order of the field, `D` and `w`.
     fn extension_id() -> &'static [u8]
         ensures { result.now ≡ extension_identity };
 }

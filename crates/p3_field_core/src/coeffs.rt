@@ -6,7 +6,8 @@ use std::alloc::AllocError;
 
 /// An array of coefficients: an element of a vector space of dimension `D` over a field.
 ///
-/// Not in the Rust crate: an element of an extension by its coefficients alone, without sums and products.
+/// Not in the Rust crate. The type has the coefficients of an extension's element, without sums and
+/// products.
 #[derive(Debug, PartialEq, Eq)]
 pub struct Coeffs<F, const D: usize> {
     coefficients: [F; D],
@@ -28,14 +29,14 @@ impl<F: Copy, const D: usize> Copy for Coeffs<F, D> {}
 impl<F: Field, const D: usize> Coeffs<F, D> {
     ghost use Rattle.p3_field_core.specs.{CoeffsCoefficients.coefficients_of, Equality.IsExact};
 
-    /// The element with these coefficients.
+    /// Returns the element with these coefficients.
     pub fn new(coefficients: [F; D]) -> Self
         ensures { coefficients_of result ≡ coefficients }
     {
         Coeffs { coefficients }
     }
 
-    /// Two elements compare equal exactly where they are one element, of any dimension.
+    /// Two elements compare equal exactly where they are the same, in any dimension.
     ///
     /// A law: the body is empty, and a caller cites the clause.
     pub fn compared_by_coefficients()

@@ -1,4 +1,4 @@
-//! Fields, and prime fields whose elements are numbers of at most 64 bits or 32.
+//! Fields, and prime fields whose elements are numbers of at most 64 or 32 bits.
 ghost use Rattle.std.specs.Prelude.{◌≡◌, ℕ, ◌+◌, ◌*◌, ◌^◌, ◌<◌, ◌≤◌, Option, Some, None};
 ghost use Rattle.p3_field_core.specs.Sizes.{IsSmall};
 
@@ -6,12 +6,12 @@ use crate::PrimeCharacteristicRing;
 
 /// A field: a ring of residues modulo a prime. The default element is 0.
 ///
-/// `p3-field`'s `Field`.
+/// Corresponds to `p3-field`'s `Field`.
 pub trait Field: PrimeCharacteristicRing + Default {
     // How many bits the order takes.
     ghost bit_length: { ℕ };
 
-    /// The bit length of the order.
+    /// Returns the bit length of the order.
     fn bits() -> usize
         ensures { result ≡ bit_length };
 
@@ -29,30 +29,31 @@ pub trait Field: PrimeCharacteristicRing + Default {
 
 /// A field of prime order.
 ///
-/// `p3-field`'s `PrimeField`.
+/// Corresponds to `p3-field`'s `PrimeField`.
 pub trait PrimeField: Field {
-    /// The order of the field.
+    /// Returns the order of the field.
     fn order() -> u128
         ensures { result ≡ Self.residues.order };
 }
 
 /// A prime field whose order is below `2^64`.
 ///
-/// `p3-field`'s `PrimeField64`.
+/// Corresponds to `p3-field`'s `PrimeField64`.
 pub trait PrimeField64: PrimeField {
     /// The order of the field.
     const ORDER_U64: u64;
 
     ghost ORDER_U64: { ℕ };
 
-    /// The element with this canonical number, which is below the order.
+    /// Returns the element with this canonical number, which is below the order.
     ///
-    /// It takes 64 bits, also for a field of 32.
+    /// The argument has 64 bits, even for a field of 32 bits.
     fn from_canonical(value: u64) -> Self
         requires { value < Self.residues.order }
         ensures { result ≡ Self.residues.of value };
 
-    /// The element with this canonical number, or `None` where the number is not below the order.
+    /// Returns the element with this canonical number, or `None` where the number is not below the
+    /// order.
     fn from_canonical_checked(value: u64) -> Option<Self>
         ensures canonical { value < Self.residues.order → result ≡ Some (Self.residues.of value) }
         ensures other { Self.residues.order ≤ value → result ≡ None }
@@ -64,11 +65,11 @@ pub trait PrimeField64: PrimeField {
         }
     }
 
-    /// The canonical number, which is below the order.
+    /// Returns the canonical number, which is below the order.
     fn as_canonical_u64(&self) -> u64
         ensures { result ≡ Self.residues.number self.now };
 
-    /// A number of its own for each element: the canonical one.
+    /// Returns a number that identifies the element: the canonical one.
     fn to_unique_u64(&self) -> u64
         ensures { result ≡ Self.residues.number self.now }
     {
@@ -82,16 +83,16 @@ pub trait PrimeField64: PrimeField {
 
 /// A prime field whose order is below `2^32`.
 ///
-/// `p3-field`'s `PrimeField32`.
+/// Corresponds to `p3-field`'s `PrimeField32`.
 pub trait PrimeField32: PrimeField64 {
     /// The order of the field.
     const ORDER_U32: u32;
 
     ghost ORDER_U32: { ℕ };
 
-    /// The element with this canonical number, which is below the order.
+    /// Returns the element with this canonical number, which is below the order.
     ///
-    /// [`PrimeField64`] has the short name, and takes 64 bits.
+    /// The method of [`PrimeField64`] with the shorter name takes 64 bits.
     fn from_canonical_u32(value: u32) -> Self
         requires { value < Self.residues.order }
         ensures { result ≡ Self.residues.of value }
@@ -99,9 +100,10 @@ pub trait PrimeField32: PrimeField64 {
         Self::from_canonical(u64::from(value))
     }
 
-    /// The element with this canonical number, or `None` where the number is not below the order.
+    /// Returns the element with this canonical number, or `None` where the number is not below the
+    /// order.
     ///
-    /// [`PrimeField64`] has the short name, and takes 64 bits.
+    /// The method of [`PrimeField64`] with the shorter name takes 64 bits.
     fn from_canonical_u32_checked(value: u32) -> Option<Self>
         ensures canonical { value < Self.residues.order → result ≡ Some (Self.residues.of value) }
         ensures other { Self.residues.order ≤ value → result ≡ None }
@@ -109,11 +111,11 @@ pub trait PrimeField32: PrimeField64 {
         Self::from_canonical_checked(u64::from(value))
     }
 
-    /// The canonical number, which is below the order.
+    /// Returns the canonical number, which is below the order.
     fn as_canonical_u32(&self) -> u32
         ensures { result ≡ Self.residues.number self.now };
 
-    /// A number of its own for each element: the canonical one.
+    /// Returns a number that identifies the element: the canonical one.
     fn to_unique_u32(&self) -> u32
         ensures { result ≡ Self.residues.number self.now }
     {

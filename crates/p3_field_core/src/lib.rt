@@ -1,10 +1,9 @@
-//! Rings, fields and vector spaces over them, as residues: the traits that generic code is written
-//! against, and arrays of coefficients.
+//! Rings, fields and vector spaces over residues: the traits for generic code, and arrays of coefficients.
 //!
-//! Most traits have the names of those of the crate `p3-field`, which the Rust crate stands on. They have the members
-//! that challengers and transcripts need, and no others.
+//! Most traits have the names of those in the crate `p3-field`, on which the Rust crate is built. They have only the
+//! members that challengers and transcripts need.
 //!
-//! What is called a law is a function without effect whose contract a caller cites. The Rust crate has none.
+//! A law is a function without effect whose contract a caller cites. The Rust crate has none.
 #![tactic(auto)]
 
 mod algebra;

@@ -1,7 +1,7 @@
-//! The least number of bits in which so many values have a number each.
+//! The least number of bits that can number a given number of values.
 ghost use Rattle.std.specs.Prelude.{ℕ, ◌^◌, ◌≤◌};
 
-/// The least `k` for which `2^k` is at least `n`.
+/// Returns the least `k` for which `2^k` is at least `n`.
 ///
 /// `n` is at least 1. `p3-util`'s `log2_ceil_u64`.
 pub fn log2_ceil_u64(n: u64) -> u64

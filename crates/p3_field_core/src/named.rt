@@ -1,17 +1,17 @@
-//! Types with a name, which steps of a protocol carry.
+//! Types with a name, which the steps of a protocol carry.
 ghost use Rattle.std.specs.Prelude.{◌≡◌, ℕ, List, codes};
 
-/// A type with a name, which tells apart what is made for different types.
+/// A type with a name, by which readers distinguish the steps of different types.
 ///
-/// Not in the Rust crate, which takes the compiler's names of types.
+/// Not in the Rust crate, which uses the compiler's names of types.
 pub trait Named {
-    /// The name.
+    /// The name of the type.
     const NAME: &'static str;
 
     // The bytes of the name.
     ghost name_bytes: { List ℕ };
 
-    /// The name, [`NAME`](Named::NAME), for code whose contract speaks of its bytes.
+    /// Returns the name, [`NAME`](Named::NAME), for code whose contract speaks of its bytes.
     fn type_name() -> &'static str
         ensures { result.now ≡ name_bytes };
 }

@@ -6,12 +6,12 @@ ghost use Rattle.p3_field_core.specs.Residues.{Residues, IsResidues, sum_of, dif
 use crate::exponentiation::power;
 use std::ops::{Add, Mul, Sub};
 
-/// The ring of the residues modulo a prime, the order.
+/// The ring of the residues modulo a prime, which is the order.
 ///
-/// Contracts see an element by its canonical number, which is below the order. Elements compare equal exactly
-/// where they are one element.
+/// Contracts see an element by its canonical number, which is below the order. Elements compare equal exactly where
+/// they are the same.
 ///
-/// `p3-field`'s `PrimeCharacteristicRing`.
+/// Corresponds to `p3-field`'s `PrimeCharacteristicRing`.
 pub trait PrimeCharacteristicRing: Copy
     + PartialEq
     + Add<Self, Output = Self>
@@ -27,7 +27,7 @@ pub trait PrimeCharacteristicRing: Copy
 
     ghost ONE: { Self };
 
-    /// The element that gives 0 with 1.
+    /// The additive inverse of 1.
     const NEG_ONE: Self;
 
     ghost NEG_ONE: { Self };
@@ -35,23 +35,23 @@ pub trait PrimeCharacteristicRing: Copy
     // The order, the canonical number of an element, and the element that a number is.
     ghost residues: { Residues Self };
 
-    /// The element that a number is modulo the order.
+    /// Returns the element of a number modulo the order.
     fn from_u8(value: u8) -> Self
         ensures { result ≡ residues.of value };
 
-    /// The element that a number is modulo the order.
+    /// Returns the element of a number modulo the order.
     fn from_u16(value: u16) -> Self
         ensures { result ≡ residues.of value };
 
-    /// The element that a number is modulo the order.
+    /// Returns the element of a number modulo the order.
     fn from_u32(value: u32) -> Self
         ensures { result ≡ residues.of value };
 
-    /// The element that a number is modulo the order.
+    /// Returns the element of a number modulo the order.
     fn from_u64(value: u64) -> Self
         ensures { result ≡ residues.of value };
 
-    /// The element to a power; the power 0 is 1, also of 0.
+    /// Returns a power of the element. The power 0 is 1, even of 0.
     final fn exp_u64(self, exponent: u64) -> Self
         ensures { result ≡ power_of residues self exponent }
     {
@@ -92,8 +92,8 @@ pub trait PrimeCharacteristicRing: Copy
     ghost mul_law: { (x y r : Self) → Self.mul_gives x y r → r ≡ product_of residues x y };
 }
 
-/// Elements add, subtract and multiply as numbers do, modulo the order: of sums and products the order and the grouping
-/// do not matter, 0 and 1 change nothing, products distribute over sums and differences, and what is added to both
+/// Elements add, subtract and multiply as numbers do, modulo the order. Sums and products are commutative and
+/// associative, with the neutral elements 0 and 1. Products distribute over sums and differences. A summand on both
 /// sides cancels.
 ///
 /// A law: the body is empty, and a caller cites the clause.

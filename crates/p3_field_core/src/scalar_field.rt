@@ -3,13 +3,13 @@ ghost use Rattle.std.specs.Prelude.{◌≡◌, [], ◌∷◌};
 
 use crate::{AlgebraIdentity, Named, PrimeField64};
 
-/// A prime field whose elements are the scalars of a protocol: it says which algebra it is over itself, and has a
-/// name.
+/// A prime field whose elements are the scalars of a protocol. It has a text that identifies it as an algebra
+/// over itself, and a name.
 ///
-/// Over itself a field has one coefficient, and an element is its own. Generic code knows it by this bound: of
-/// `F: PrimeField64 + AlgebraIdentity<F>` alone no proof can tell how many coefficients an element has.
+/// Over itself a field has dimension 1, and an element is its own coefficient. Generic code learns this from the
+/// bound: from `F: PrimeField64 + AlgebraIdentity<F>` alone no proof can derive the number of coefficients.
 ///
-/// Not in the Rust crate, whose code writes such bounds side by side.
+/// Not in the Rust crate, whose code lists such bounds separately.
 pub trait ScalarField: PrimeField64 + AlgebraIdentity<Self> + Named {
     // An element has one coefficient.
     ghost one_coefficient: { Self.DIMENSION ≡ 1 };

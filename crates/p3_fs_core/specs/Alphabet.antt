@@ -1,27 +1,27 @@
--- Alphabets of a challenger, and what the observation of a byte string may be refused for.
+-- Alphabets of a challenger, and the reasons to refuse the observation of a byte string.
 use Rattle.std.specs.Prelude.{◌≡◌, ℕ, ◌⊎◌, List, [], ◌∷◌}
 use Rattle.p3_challenger_core.specs.Observation.{Observation, LeavesInCalls}
 use Rattle.p3_challenger_core.specs.declared.error.ChallengerError.{ChallengerError, TheVariants.{OutOfMemory, TooLong}}
 
--- what an observation that answers this error leaves: the byte string was too long, and nothing of it was
--- absorbed, or it was refused for memory alone
+-- the state after an observation with this error: the byte string was too long, and nothing of it was absorbed;
+-- or memory was refused
 abbrev pub RefusesBytes : {S : Type 0} → Type 0 → (S → Type 0) → S → ChallengerError → S → Type 0
 RefusesBytes IsTooLong MayLeave before OutOfMemory after = (IsTooLong → ⊥) × MayLeave after
 RefusesBytes IsTooLong MayLeave before TooLong after = IsTooLong × (after ≡ before)
 RefusesBytes IsTooLong MayLeave before _ after = ⊥
 
--- what is left of a state where items, observed as one slice or one by one, are refused
+-- the state after items, observed as one slice or one by one, are refused
 abbrev pub LeavesItems : {S Symbol T : Type 0} → Observation S Symbol T → (S → List T → S → Type 0) → S → List T → S →
     Type 0
 LeavesItems o slice_may_leave s items t = slice_may_leave s items t ⊎ LeavesInCalls o.observed o.may_leave s items t
 
--- each of a list is an item
+-- each element of the list is an item
 abbrev pub AreItems : {T : Type 0} → (T → Type 0) → List T → Type 0
 AreItems IsItem [] = Unit {0}
 AreItems IsItem (x ∷ xs) = IsItem x × AreItems IsItem xs
 
--- an alphabet: what a byte string is in it, the lengths that are too long for it, and what observing an item, or
--- items as one slice, does
+-- an alphabet: the items of a byte string, the lengths that are too long, and the observation of an item and of
+-- a slice of items
 pub record Alphabet (S Symbol I : Type 0) : Type 1 where
   pub items : List ℕ → List I
   pub is_too_long : ℕ → Type 0

@@ -1,4 +1,4 @@
--- The count of a bounded step takes the least number of bytes, and is told by them.
+-- The count of a bounded step takes the least number of bytes, which determine the count.
 use Rattle.std.proofs.Common.{◌≡◌, ℕ, zero, suc, ◌+◌, ◌^◌, ◌<◌, ◌≤◌, Bool, true, false, nat_lt, if◌then◌else◌, refl}
 use Rattle.std.proofs.{Common.{sym, subst, add-zero, arith}, lemmas.Bool.Decides.nat_tests}
 use Rattle.p3_fs_core.specs.BigEndian.{least_width, count_width}
@@ -9,7 +9,7 @@ is_below n m h = grind (arith, nat_tests)
 at_least : (n m : ℕ) → nat_lt n m ≡ false → m ≤ n
 at_least n m h = grind (arith, nat_tests)
 
--- a width that is too small is below one that is not
+-- a width that is too small is below every width that is enough
 passes : (max width r : ℕ) → width ≤ r → max < 256 ^ r → 256 ^ width ≤ max → width + 1 ≤ r
 passes max width r from enough more =
     let differs : width ≡ r → ⊥ = λ same. let large : 256 ^ r ≤ max = rw (sym same) more in omega arith in
@@ -55,7 +55,7 @@ pub count_width-enough : (max : ℕ) → max < 2 ^ 64 → max < 256 ^ count_widt
 unfolding count_width
 count_width-enough max fits = least_width-enough 8 0 max fits
 
--- no smaller one does
+-- no smaller width holds the greatest
 pub count_width-least : (max width : ℕ) → max < 256 ^ width → count_width max ≤ width
 unfolding count_width
 count_width-least max width enough = least_width-least 8 0 max width (omega arith) enough

@@ -1,4 +1,4 @@
--- What a decoder answers, from what reading gives.
+-- The result of a decoder, from the result of reading.
 use Rattle.std.{proofs.Common.{◌≡◌, ℕ, List, ◌++◌, drop, Result, Ok, Err, refl, sym, ap, ◌∙◌, subst}, specs.Result.IfOk}
 use Rattle.p3_fs_core.specs.{Errors.{Decodes, IsBadShape}, declared.error.TranscriptError.TranscriptError}
 
@@ -15,7 +15,7 @@ module _ {T : Type 0} (encoding : T → List ℕ) (reading : List ℕ → Result
     found_in (Err reason) (Ok x) is decodes = absurd decodes
     found_in (Err reason) (Err e) is decodes = tt
 
-    -- what is decoded is encoded at the head of the bytes
+    -- a decoded value is encoded at the head of the bytes
     pub decoded-found : (r : Result T TranscriptError) → Decodes (reading bytes) r →
         IfOk r (λ x. bytes ≡ encoding x ++ drop width bytes)
     decoded-found r decodes = found_in (reading bytes) r (λ _. reading bytes) decodes
@@ -24,7 +24,7 @@ module _ {T : Type 0} (encoding : T → List ℕ) (reading : List ℕ → Result
   decodes-ok found (Ok x) decodes = ap Ok decodes
   decodes-ok found (Err e) decodes = absurd decodes
 
-  -- what is encoded at the head of the bytes is decoded
+  -- a value encoded at the head of the bytes is decoded
   pub decoded-only : ((x : T) (rest : List ℕ) → reading (encoding x ++ rest) ≡ Ok (x, rest)) →
       (bytes : List ℕ) (r : Result T TranscriptError) → Decodes (reading bytes) r → (x : T) (rest : List ℕ) →
       bytes ≡ encoding x ++ rest → r ≡ Ok x
@@ -32,7 +32,7 @@ module _ {T : Type 0} (encoding : T → List ℕ) (reading : List ℕ → Result
       decodes-ok (x, rest) r (subst (λ (o : Result (T × List ℕ) (List ℕ)). Decodes o r) (ap reading encoded
       ∙ reads_back x rest) decodes)
 
--- what a decoder's answer says of reading
+-- the result of a decoder says what reading gives
 pub decoded-ok : {T : Type 0} (o : Result (T × List ℕ) (List ℕ)) (x : T) → Decodes o (Ok x) →
     (rest : List ℕ) × (o ≡ Ok (x, rest))
 decoded-ok (Ok found) x decodes = (found.1, ap (λ y. Ok (y, found.1)) (sym decodes))

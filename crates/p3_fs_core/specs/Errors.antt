@@ -9,17 +9,17 @@ use Rattle.p3_fs_core.specs.declared.error.TranscriptError.TheVariants.{Pattern,
 use Rattle.p3_challenger_core.specs.declared.error.ChallengerError.{ChallengerError}
 use Rattle.p3_challenger_core.specs.declared.error.ChallengerError.TheVariants as challenger
 
--- a challenger's refusal inside a transcript: being out of memory is the transcript's own
+-- a challenger's error inside a transcript; out of memory becomes the transcript's own error
 abbrev pub transcript_error : ChallengerError → TranscriptError
 transcript_error challenger.OutOfMemory = OutOfMemory
 transcript_error e = Challenger e
 
--- the error is a proof of a bad shape, for this reason
+-- the error says that the proof has a bad shape, for this reason
 abbrev pub IsBadShape : List ℕ → TranscriptError → Type 0
 IsBadShape reason (BadProofShape text) = text.now ≡ reason
 IsBadShape reason _ = ⊥
 
--- what a decoder answers is what reading gives: the value, or the reason why there is none
+-- a decoder returns what reading gives: the value, or the reason why there is none
 abbrev pub Decodes : {T : Type 0} → Result (T × List ℕ) (List ℕ) → Result T TranscriptError → Type 0
 Decodes (Ok found) (Ok x) = x ≡ found.0
 Decodes (Err reason) (Err e) = IsBadShape reason e
@@ -27,14 +27,14 @@ Decodes _ _ = ⊥
 
 -- ---- what an error says
 
--- what is wrong with steps that are no pattern, with positions and steps
+-- why steps are not a pattern, with the positions and the steps
 pub data Fault : Type 0 where
   missing_begin : (position : ℕ) (closer : Step) → Fault
   invalid_kind : (begin_position : ℕ) (opener : Step) (position : ℕ) (s : Step) → Fault
   mismatched_begin_end : (begin_position : ℕ) (opener : Step) (position : ℕ) (closer : Step) → Fault
   missing_end : (position : ℕ) (opener : Step) → Fault
 
--- why a step does not fit a pattern, with its steps wherever their texts lie
+-- why a step does not fit a pattern, with the steps, wherever their texts lie
 abbrev pub pattern_error_of : PatternError Interaction → PatternError Step
 pattern_error_of Finished = Finished
 pattern_error_of (NoMoreSteps received) = NoMoreSteps (step_of received)
@@ -51,7 +51,7 @@ pub data Refusal : Type 0 where
   label_too_long : Refusal
   out_of_memory : Refusal
 
--- what an error says, with its steps and its reason wherever their texts lie
+-- the meaning of an error, with its steps and its reason, wherever their texts lie
 abbrev pub refusal_of : TranscriptError → Refusal
 refusal_of (MissingBegin info) = fault (missing_begin info.position (step_of info.end))
 refusal_of (InvalidKind info) =
@@ -65,7 +65,7 @@ refusal_of (Challenger e) = challenger_refused e
 refusal_of LabelTooLong = label_too_long
 refusal_of OutOfMemory = out_of_memory
 
--- it is a fault of steps, of this kind
+-- the refusal is a fault of steps, of this kind
 abbrev pub IsFault : (Fault → Type 0) → Refusal → Type 0
 IsFault Is (fault f) = Is f
 IsFault Is _ = ⊥

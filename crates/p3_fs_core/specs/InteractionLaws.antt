@@ -3,12 +3,12 @@ use Rattle.std.{specs.Prelude.{◌≡◌, List, [], ◌∷◌, map, refl}, proof
 use Rattle.p3_fs_core.specs.{declared.interaction.Interaction.Interaction, Interactions.{step_of, interactions_of}}
 use Rattle.p3_fs_core.specs.{StepFits.AreProgramSteps, Steps.Step}
 
--- a program can hold the steps that it holds
+-- a program can hold each of its steps
 pub each-fits : (interactions : List Interaction) → AreProgramSteps (map step_of interactions)
 each-fits [] = tt
 each-fits (i ∷ interactions) = (i.fits, each-fits interactions)
 
--- interactions that are the steps are so
+-- interactions made of the steps have these steps
 pub steps-of_interactions : (steps : List Step) (fit : AreProgramSteps steps) →
     map step_of (interactions_of steps fit) ≡ steps
 steps-of_interactions [] fit = refl

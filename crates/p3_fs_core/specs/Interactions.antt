@@ -7,7 +7,7 @@ use Rattle.p3_fs_core.specs.Steps.{Step, step_with}
 abbrev pub step_of : Interaction → Step
 step_of i = step_with i.hierarchy i.kind i.label.now i.type_tag i.type_name.now i.length
 
--- some interaction that is the step
+-- some interaction with this step
 abbrev pub interaction_of : (s : Step) → IsProgramStep s → Interaction
 interaction_of s fits = record {
   hierarchy = s.hierarchy;
@@ -19,7 +19,7 @@ interaction_of s fits = record {
   fits = fits;
 }
 
--- some interactions that are the steps
+-- some interactions with these steps
 abbrev pub interactions_of : (steps : List Step) → AreProgramSteps steps → List Interaction
 interactions_of [] fit = []
 interactions_of (s ∷ steps) fit = interaction_of s fit.0 ∷ interactions_of steps fit.1

@@ -14,13 +14,13 @@ use Rattle.p3_fs_core.specs.Packing.{little_endian, chunk_bytes, chunk_count, fi
 
 -- ---- numbers of bytes
 
--- the number of k bytes is below the number of all of them
+-- the number of k bytes is below 256^k
 pub little_endian-below : (bytes : List ℕ) → AreBytes bytes → little_endian bytes < 256 ^ length bytes
 little_endian-below [] h = lit< tt
 little_endian-below (byte ∷ bytes) h =
     let below = little_endian-below bytes (λ i. h (suc i)) in omega (arith, pow-suc 256 (length bytes), h zero, below)
 
--- as many bytes of one number are the same
+-- equally many bytes with the same number are the same
 pub little_endian-injective : (a b : List ℕ) → AreBytes a → AreBytes b → length a ≡ length b →
     little_endian a ≡ little_endian b → a ≡ b
 little_endian-injective [] [] a_are b_are same e = refl
@@ -60,7 +60,7 @@ low_first i (suc k) n =
     ∙ ap (λ m. 256 * m + byte_at i n) (low_first (suc i) k n)
     ∙ one_more i n
 
--- a number is that of its bytes
+-- a number is the number of its bytes
 little_endian-word : (n : ℕ) → n < 2 ^ 64 → little_endian (bytes_low_first 0 8 n) ≡ n
 little_endian-word n fits =
     let whole = low_first 0 8 n in
@@ -72,7 +72,7 @@ little_endian-zeros : (k : ℕ) → little_endian (replicate k 0) ≡ 0
 little_endian-zeros zero = refl
 little_endian-zeros (suc k) = ap (λ n. 0 + 256 * n) (little_endian-zeros k)
 
--- zeros after bytes do not change their number
+-- trailing zeros do not change the number of bytes, lowest first
 little_endian-padded : (bytes : List ℕ) (k : ℕ) → little_endian (bytes ++ replicate k 0) ≡ little_endian bytes
 little_endian-padded [] k = little_endian-zeros k
 little_endian-padded (byte ∷ bytes) k = ap (λ n. byte + 256 * n) (little_endian-padded bytes k)
@@ -84,7 +84,7 @@ AreBytes-padded [] (suc k) h (suc i) = AreBytes-padded [] k h i
 AreBytes-padded (byte ∷ bytes) k h zero = h zero
 AreBytes-padded (byte ∷ bytes) k h (suc i) = AreBytes-padded bytes k (λ j. h (suc j)) i
 
--- eight bytes, of which the last are zeros, as a machine reads them
+-- eight bytes with trailing zeros, as a machine reads them
 pub number_of_filled : (bytes filled : List ℕ) (n : ℕ) → length bytes ≤ 8 → AreBytes bytes →
     filled ≡ bytes ++ replicate (8 - length bytes) 0 → n < 2 ^ 64 → n ≡ from_le_bytes w64 filled →
     n ≡ little_endian bytes
@@ -96,14 +96,14 @@ number_of_filled bytes filled n short are_bytes is fits read =
     ∙ ap (from_le_bytes w64) is) in
     sym (little_endian-word n fits) ∙ ap little_endian encoded ∙ little_endian-padded bytes k
 
--- what a machine word of zeros is, whose front bytes are written over
+-- a machine word of zeros whose first bytes are overwritten
 pub written_before : (front bytes : List ℕ) → front ≡ bytes → front ++ drop (length bytes) (replicate 8 0)
     ≡ bytes ++ replicate (8 - length bytes) 0
 written_before front bytes is =
     ap (λ l. l ++ drop (length bytes) (replicate 8 0)) is
     ∙ ap (λ l. bytes ++ l) (drop-replicate {X = ℕ} (length bytes) 8 0)
 
--- a chunk is shorter than the order of the field: its numbers are below it
+-- the number of a chunk is below the order of the field
 pub chunk-below : (bits order size : ℕ) → 2 ^ bits ≤ 2 * order → 0 < bits → size ≤ chunk_bytes bits → 256 ^ size ≤ order
 chunk-below bits order size least positive short =
     let grown : 2 ^ (8 * size + 1) ≤ 2 ^ bits = pow_mono (omega (arith, positive, short)) in
@@ -133,7 +133,7 @@ count-more size len positive some = elim (cases_lt len size) [
       ap (λ k. k / size) split ∙ counted ∙ next
 ]
 
--- a chunk is as long as the size, or it is the last
+-- a chunk has the full size, or it is the last
 cut_off : (size : ℕ) (chunk rest all : List ℕ) → length chunk ≡ min size (length all) → all ≡ chunk ++ rest →
     (take size (chunk ++ rest) ≡ chunk) × (drop size (chunk ++ rest) ≡ rest)
 cut_off size chunk rest all short parts = elim (cases_lt (length all) size) [
@@ -149,7 +149,7 @@ cut_off size chunk rest all short parts = elim (cases_lt (length all) size) [
       (take-front size chunk rest long, drop-front size chunk rest long)
 ]
 
--- the first chunk, and the chunks of what is after it
+-- the first chunk, and the chunks of the rest
 pub chunks-step : (size : ℕ) (all chunk rest : List ℕ) → 0 < size → 0 < length all → all ≡ chunk ++ rest →
     length chunk ≡ min size (length all) → chunks size all ≡ chunk ∷ chunks size rest
 unfolding first_chunks
@@ -175,7 +175,7 @@ power_grows i j less =
     let grown : 2 ^ (8 * i) ≤ 2 ^ (8 * j) = pow_mono (omega (arith, less)) in
     omega (arith, grown, power_of_bytes i, power_of_bytes j)
 
--- the chunks hold all the bytes
+-- the chunks hold all bytes
 pub chunks-enough : (size len : ℕ) → 0 < size → len ≤ chunk_count size len * size
 chunks-enough size len positive =
     let q = chunk_count size len in
@@ -201,7 +201,7 @@ module _ {F : Type 0} (r : Residues F) (laws : IsResidues r) (size : ℕ) (fits 
       (of-injective r laws (little_endian a) (little_endian b) (chunk-fits a a_are short) (chunk-fits b b_are b_short)
       e)
 
-  -- as many chunks of equally many bytes are a prefix code
+  -- equally many chunks of equally many bytes are a prefix code
   pub chunks-prefix_code : (n : ℕ) (a b : List ℕ) (x y : List F) → AreBytes a → AreBytes b → length a ≡ length b →
       length a ≤ n * size → map element_of_chunk (first_chunks size n a) ++ x
       ≡ map element_of_chunk (first_chunks size n b) ++ y → (a ≡ b) × (x ≡ y)
@@ -265,7 +265,7 @@ module _ {F : Type 0} (r : Residues F) (laws : IsResidues r) (bits : ℕ) (below
       packed-prefix_code r laws (chunk_bytes bits)
       (chunk-below bits r.order (chunk_bytes bits) least (omega (arith, positive)) (omega arith)) positive
 
--- byte strings that begin one list of elements are one
+-- byte strings whose elements begin one list are equal
 pub packed-begins : {F : Type 0} (r : Residues F) (laws : IsResidues r) (bits : ℕ) (below : r.order < 2 ^ bits)
     (least : 2 ^ bits ≤ 2 * r.order) → 256 < r.order → (a b : List ℕ) (x y : List F) → AreBytes a → AreBytes b →
     (r.order ≤ length a → ⊥) → (r.order ≤ length b → ⊥) →
@@ -277,6 +277,6 @@ packed-begins r laws bits below least large a b x y a_are b_are a_short b_short 
       is_below (length b) r.order b_short,
     ) e).0)
 
--- a byte string of at most 255 bytes is not too long for a field of more elements
+-- a byte string of at most 255 bytes can be packed in a field of more than 256 elements
 pub short-packable : (order : ℕ) → 256 < order → (len : ℕ) → len ≤ 255 → order ≤ len → ⊥
 short-packable order many len short long = absurd (omega (arith, many, short, long))

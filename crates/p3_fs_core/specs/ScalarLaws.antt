@@ -10,7 +10,7 @@ use Rattle.p3_fs_core.specs.BigEndianLaws.{big_endian-in_bytes, in_bytes-big_end
 use Rattle.p3_fs_core.specs.BigEndianLaws.{take-front, drop-front, fits-bytes_for}
 use Rattle.p3_fs_core.specs.Scalar.{wire, read, element_of, encoding, not_enough_bytes, outside_range}
 
--- a choice of two results: which one it is, and how the test went
+-- a choice between two results: which one is chosen, and the value of the test
 pub chosen : {A E : Type 0} (b : Bool) (e : E) (r : Result A E) (x : A) → (if b then Err e else r) ≡ Ok x →
     (b ≡ false) × (r ≡ Ok x)
 chosen true e r x h = cc
@@ -32,7 +32,7 @@ at_least n m h = grind (arith, nat_tests)
 is_below : (n m : ℕ) → nat_lt n m ≡ true → n < m
 is_below n m h = grind (arith, nat_tests)
 
--- what is read back is a prefix code, whatever is read and however it is encoded
+-- values that are read back form a prefix code, however they are encoded
 pub read-prefix_code : {T : Type 0} (encoding : T → List ℕ) (reading : List ℕ → Result (T × List ℕ) (List ℕ)) →
     ((x : T) (rest : List ℕ) → reading (encoding x ++ rest) ≡ Ok (x, rest)) → IsPrefixCode encoding
 read-prefix_code {T} encoding reading reads x y a b h =
@@ -42,21 +42,21 @@ read-prefix_code {T} encoding reading reads x y a b h =
     (ap (λ p. p.0) same, ap (λ p. p.1) same)
 
 module _ {F : Type 0} (r : Residues F) (laws : IsResidues r) (width : ℕ) (fits : r.order ≤ 256 ^ width) where
-  -- the number of an element's bytes is the element's
+  -- the number of an element's encoding is the element's number
   number-wire : (x : F) → big_endian (wire r width x) ≡ r.number x
   number-wire x = big_endian-in_bytes width (r.number x) (omega (arith, fits, laws.below x))
 
   pub length-wire : (x : F) → length (wire r width x) ≡ width
   length-wire x = length-in_bytes width (r.number x)
 
-  -- an element's number is an element
+  -- the element of an element's number is that element
   element_of-number : (x : F) (rest : List ℕ) → element_of r (r.number x) rest ≡ Ok (x, rest)
   element_of-number x rest =
       ap (λ b. if b then Ok (r.of (r.number x), rest) else Err outside_range)
       (below (r.number x) r.order (laws.below x))
       ∙ ap (λ y. Ok (y, rest)) (laws.of_number x)
 
-  -- what is encoded is read, whatever follows
+  -- an encoded element is read back, whatever follows
   pub read-wire : (x : F) (rest : List ℕ) → read r width (wire r width x ++ rest) ≡ Ok (x, rest)
   read-wire x rest =
       let encoded = wire r width x in
@@ -69,7 +69,7 @@ module _ {F : Type 0} (r : Residues F) (laws : IsResidues r) (width : ℕ) (fits
       ∙ ap (λ n. element_of r n rest) (number-wire x)
       ∙ element_of-number x rest
 
-  -- what is read is encoded so
+  -- an element that is read has these bytes as its encoding
   pub read-only : (bytes : List ℕ) (x : F) (rest : List ℕ) → AreBytes bytes → read r width bytes ≡ Ok (x, rest) →
       bytes ≡ wire r width x ++ rest
   read-only bytes x rest are_bytes h =
@@ -87,17 +87,17 @@ module _ {F : Type 0} (r : Residues F) (laws : IsResidues r) (width : ℕ) (fits
       (AreBytes-take width bytes are_bytes) in
       sym (ap (λ a. a ++ rest) encoded ∙ ap (λ b. front ++ b) (sym following) ∙ take-append-drop width bytes)
 
-  -- the encodings are a prefix code
+  -- encodings of elements are a prefix code
   pub wire-prefix_code : IsPrefixCode (wire r width)
   wire-prefix_code = read-prefix_code (wire r width) (read r width) read-wire
 
 -- ---- the width of a field
 
--- an order of so many bits is at most the number of bytes that they take
+-- an order is at most 256 to the number of bytes that its bits take
 pub order-fits : (bits order : ℕ) → order < 2 ^ bits → order ≤ 256 ^ bytes_for bits
 order-fits bits order fits = omega (arith, fits-bytes_for bits order fits)
 
--- and those are at most eight
+-- an element takes at most eight bytes
 pub width-most : (bits order : ℕ) → 2 ^ bits ≤ 2 * order → order < 2 ^ 64 → bytes_for bits ≤ 8
 width-most bits order least fits = elim (cases_lt 64 bits) [
   | inl more ↦
@@ -109,7 +109,7 @@ width-most bits order least fits = elim (cases_lt 64 bits) [
 pub width-short : (bits order : ℕ) → 2 ^ bits ≤ 2 * order → order < 2 ^ 64 → bytes_for bits ≤ 65535
 width-short bits order least fits = omega (arith, width-most bits order least fits)
 
--- an element of a field is encoded
+-- elements of a field have an encoding
 pub is_encoding : {F : Type 0} (r : Residues F) → IsResidues r → (bits : ℕ) → r.order < 2 ^ bits →
     IsEncoding (encoding r bits)
 is_encoding r laws bits below =
@@ -122,12 +122,12 @@ is_encoding r laws bits below =
       only_reads = read-only r laws width fits;
     }
 
--- in some bytes, since the order is above 1
+-- an element takes at least one byte, since the order is above 1
 pub width-positive : {F : Type 0} (r : Residues F) → IsResidues r → (bits : ℕ) → r.order < 2 ^ bits → 0 < bytes_for bits
 width-positive r laws zero below = absurd (omega (arith, laws.above_one, below))
 width-positive r laws (suc bits) below = omega arith
 
--- where the bytes are enough, the one reason for none is that the number is not below the order
+-- with enough bytes, the only reason to read no element is a number that is not below the order
 one_reason-of : {A : Type 0} (canonical : Bool) (found : A) (reason : List ℕ) →
     (if canonical then Ok found else Err outside_range) ≡ Err reason → reason ≡ outside_range
 one_reason-of true found reason e = cc

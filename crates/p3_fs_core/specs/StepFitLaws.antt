@@ -1,5 +1,5 @@
--- What is so of every step that a program holds: each fact has one proof at most. So steps are told
--- apart by their parts alone.
+-- Facts that hold of every step in a program, each with at most one proof. So a step is determined
+-- by its parts.
 use Rattle.std.specs.{Prelude.{ℕ, List, [], ◌∷◌, length}, Coded.{×_prop, Unit-prop, le_prop, Coded-set, coded_ℕ}}
 use Rattle.p3_challenger_core.specs.Reading.{AreBytes}
 use Rattle.p3_fs_core.specs.declared.step.{Length.Length, Length.TheVariants.{Fixed, Bounded}, TypeTag.TypeTag}

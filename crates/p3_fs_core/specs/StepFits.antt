@@ -1,4 +1,4 @@
--- What is so of every step that a program holds.
+-- Facts that hold of every step in a program.
 use Rattle.std.specs.Prelude.{◌≡◌, ℕ, ◌<◌, ◌^◌, List, [], ◌∷◌, length}
 use Rattle.p3_challenger_core.specs.Reading.{AreBytes}
 use Rattle.p3_fs_core.specs.declared.step.{Length.Length, Length.TheVariants.{Fixed, Bounded}, TypeTag.TypeTag}
@@ -11,11 +11,11 @@ FitsLength (Fixed count) = count < 2 ^ 64
 FitsLength (Bounded most) = most < 2 ^ 64
 FitsLength _ = Unit {0}
 
--- a degree fits its type, and a basis is 32 bytes
+-- a degree fits its type, and a basis has 32 bytes
 abbrev pub IsEnd : ℕ → List ℕ → Type 0
 IsEnd degree basis = (degree < 2 ^ 64) × (length basis ≡ 32) × AreBytes basis
 
--- the numbers of a tag fit their types, and its basis is 32 bytes
+-- the numbers of a tag fit their types, and its basis has 32 bytes
 abbrev pub FitsTag : TypeTag → Type 0
 FitsTag (Algebra modulus degree basis) = (modulus < 2 ^ 64) × IsEnd degree basis
 FitsTag (BinaryTower bits degree basis) = (bits < 2 ^ 64) × IsEnd degree basis

@@ -1,4 +1,4 @@
--- Laws of the texts of steps: each is read back from what it prints.
+-- Laws of the texts of steps: the text of a step determines the step.
 use Rattle.std.proofs.Common.{◌≡◌, ℕ, ◌+◌, ◌*◌, ◌≤◌, ◌<◌, ◌^◌, ◌/◌, ◌%◌, false, List, [], ◌∷◌, ◌++◌, drop, slice_index}
 use Rattle.std.proofs.{Common.{codes, append_assoc, refl, sym, ap, ◌∙◌, lit<, arith}, lemmas.Bool.Decides.nat_tests}
 use Rattle.std.{proofs.lemmas.Fmt.digits_is_IsNumeral, specs.{Char.digit_value, Fmt.{decimal, digits, digit_glyph}}}
@@ -14,11 +14,11 @@ use Rattle.p3_fs_core.specs.declared.step.TypeTag.TheVariants.{Opaque, Bits, Uni
 
 -- ---- numbers
 
--- a text does not go on with a digit
+-- a text does not begin with another digit
 abbrev pub EndsDigits : ℕ → List ℕ → Type 0
 EndsDigits base text = base ≤ digit_value (slice_index text 0)
 
--- digits end where no more follow
+-- digits end where no digit follows
 digits-prefix_code : (base : ℕ) (xs ys a b : List ℕ) → AllDigits base xs → AllDigits base ys → EndsDigits base a →
     EndsDigits base b → xs ++ a ≡ ys ++ b → (xs ≡ ys) × (a ≡ b)
 digits-prefix_code base [] [] a b x_are y_are a_ends b_ends e = (refl, e)
@@ -37,20 +37,20 @@ number-prefix_code base m n a b low high m_fits n_fits a_ends b_ends e =
     let parts = digits-prefix_code base _ _ a b first.0.1 second.0.1 a_ends b_ends e in
     (sym first.1 ∙ ap (digits_value base) parts.0 ∙ second.1, parts.1)
 
--- a number in decimal is read back, where no digit follows
+-- a number in decimal is determined by its text, where no digit follows
 pub decimal-prefix_code : (m n : ℕ) (a b : List ℕ) → m < 2 ^ 128 → n < 2 ^ 128 → EndsDigits 10 a → EndsDigits 10 b →
     decimal m ++ a ≡ decimal n ++ b → (m ≡ n) × (a ≡ b)
 decimal-prefix_code m n a b m_fits n_fits a_ends b_ends e =
     number-prefix_code 10 m n a b (lit< tt) (lit< tt) (omega (arith, m_fits)) (omega (arith, n_fits)) a_ends b_ends e
 
--- a number, and what is after it
+-- a number in decimal, and the text after it
 number_part : (base m n : ℕ) (x y a b : List ℕ) → 2 ≤ base → base ≤ 16 → m < base ^ 64 → n < base ^ 64 →
     EndsDigits base (x ++ a) → EndsDigits base (y ++ b) →
     (digits base false m ++ x) ++ a ≡ (digits base false n ++ y) ++ b → (m ≡ n) × (x ++ a ≡ y ++ b)
 number_part base m n x y a b low high m_fits n_fits a_ends b_ends e =
     number-prefix_code base m n (x ++ a) (y ++ b) low high m_fits n_fits a_ends b_ends (simp append_assoc at e)
 
--- a number in decimal, and the end of its parentheses
+-- a number in decimal, and the closing parenthesis after it
 closed-prefix_code : (m n : ℕ) (a b : List ℕ) → m < 2 ^ 64 → n < 2 ^ 64 →
     (decimal m ++ codes ")") ++ a ≡ (decimal n ++ codes ")") ++ b → (m ≡ n) × (a ≡ b)
 closed-prefix_code m n a b m_fits n_fits e =
@@ -87,7 +87,7 @@ kind-prefix_code Pow Pow a b e = (refl, ap (drop 3) e)
 kind-prefix_code Salt Salt a b e = (refl, ap (drop 4) e)
 kind-prefix_code _ _ a b e = absurd (omega (arith, ap (λ text. 256 * slice_index text 0 + slice_index text 1) e))
 
--- a length is read back, whatever follows
+-- the text of a length determines it, whatever follows
 pub length-prefix_code : IsPrefixCodeOn FitsLength length_text
 length-prefix_code None None a b x_fits y_fits e = (refl, ap (drop 4) e)
 length-prefix_code Scalar Scalar a b x_fits y_fits e = (refl, ap (drop 6) e)
@@ -108,7 +108,7 @@ end-prefix_code d k xs ys a b x_is y_is e =
     (x_is.1 ∙ sym y_is.1) (simp append_assoc at (ap (drop 1) degrees.1)) in
     (degrees.0, same.0, ap (drop 1) same.1)
 
--- a tag is read back, whatever follows: the letters 0, 3 and 6 tell the variants apart
+-- the text of a tag determines it, whatever follows: the letters 0, 3 and 6 identify the variant
 pub type_tag-prefix_code : IsPrefixCodeOn FitsTag type_tag_text
 type_tag-prefix_code Marker Marker a b x_fits y_fits e = (refl, ap (drop 6) e)
 type_tag-prefix_code Bytes Bytes a b x_fits y_fits e = (refl, ap (drop 5) e)

@@ -1,4 +1,4 @@
--- What the types of steps print as.
+-- The printed texts of the types of steps.
 use Rattle.std.specs.{Prelude.{ℕ, ◌/◌, ◌%◌, false, List, [], ◌∷◌, ◌++◌, codes}, List.flat_map}
 use Rattle.std.specs.Fmt.{decimal, digits, digit_glyph}
 use Rattle.p3_fs_core.specs.declared.step.{Hierarchy.Hierarchy, Hierarchy.TheVariants.{Atomic, Begin, End}, Kind.Kind}
@@ -27,11 +27,11 @@ length_text Scalar = codes "Scalar"
 length_text (Fixed count) = codes "Fixed(" ++ (decimal count ++ codes ")")
 length_text (Bounded most) = codes "Bounded(" ++ (decimal most ++ codes ")")
 
--- a number's digits in base 16, with no zero in front
+-- a number in base 16, without leading zeros
 abbrev pub hex_number : ℕ → List ℕ
 hex_number n = digits 16 false n
 
--- a byte as two digits, the high one first
+-- a byte as two digits, high digit first
 abbrev pub hex_byte_text : ℕ → List ℕ
 hex_byte_text byte = digit_glyph false (byte / 16) ∷ digit_glyph false (byte % 16) ∷ []
 
@@ -39,7 +39,7 @@ hex_byte_text byte = digit_glyph false (byte / 16) ∷ digit_glyph false (byte %
 abbrev pub hex_text : List ℕ → List ℕ
 hex_text bytes = flat_map hex_byte_text bytes
 
--- what stands after the field in the tag of an algebra: its degree, and the digest of its basis
+-- the rest of an algebra's tag after the field: its degree and the digest of its basis
 abbrev pub algebra_end : ℕ → List ℕ → List ℕ
 algebra_end degree basis = codes "^" ++ (decimal degree ++ (codes ";" ++ (hex_text basis ++ codes ")")))
 

@@ -1,4 +1,4 @@
-//! Numbers as bytes, the highest first.
+//! Numbers as bytes, highest first.
 ghost use Rattle.std.specs.Prelude.{◌≡◌, ◌-◌, ◌≤◌, ◌++◌, length, replicate};
 ghost use Rattle.p3_fs_core.specs.BigEndian.{big_endian, in_bytes};
 

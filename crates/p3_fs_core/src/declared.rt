@@ -1,4 +1,4 @@
-//! What a step says of the algebra whose elements it carries.
+//! The step of elements of an algebra, as contracts see it.
 ghost use Rattle.std.specs.Prelude.{ℕ, List};
 ghost use Rattle.p3_fs_core.specs.{Steps.{NamedAlgebra, algebra_of, algebra_step, Step}, declared.step.Kind.Kind};
 ghost use Rattle.p3_fs_core.specs.declared.step.Length.{Length};
@@ -7,8 +7,8 @@ use crate::{Kind, Length, TranscriptField};
 use p3_field_core::{AlgebraIdentity, Named};
 use p3_symmetric::DigestHasher;
 
-/// What a step says of an algebra over the field `F`, where the hash function `D` digests its identity. Every algebra
-/// has it, so that no function needs the bound.
+/// What a step says of an algebra over the field `F`, whose identity the hash function `D` digests. Every algebra
+/// implements this trait, so no function needs the bound.
 ///
 /// Not in the Rust crate.
 pub trait Declared<F, D> {

@@ -1,4 +1,4 @@
-//! Why a transcript, a pattern or a step is refused.
+//! The errors of transcripts, patterns and steps.
 ghost use Rattle.std.specs.Prelude.{◌≡◌, ◌↔◌, true};
 ghost use Rattle.p3_fs_core.specs.Errors.{transcript_error, pattern_error_of, refusal_of};
 ghost use Rattle.p3_fs_core.specs.declared.error.TranscriptError.TheVariants.{OutOfMemory};
@@ -9,11 +9,11 @@ use std::alloc::{AllocError, AllocFailed};
 use std::fmt::Display;
 use thiserror::Error;
 
-/// Why a step of a transcript was refused, or why steps are no pattern.
+/// Says why a step of a transcript was refused, or why steps are no pattern.
 ///
-/// What stands then the call says.
+/// Each function's documentation says which state an error leaves.
 ///
-/// The Rust crate's `TranscriptError`, with four kinds more. What its kinds carry lies inline.
+/// Corresponds to the Rust crate's `TranscriptError`, with four more variants. Each variant holds its data inline.
 #[derive(Clone, Debug, PartialEq, Eq, Drop, Error)]
 pub enum TranscriptError {
     /// A closer stands where nothing is open.
@@ -28,19 +28,19 @@ pub enum TranscriptError {
     /// A container is still open at the end.
     #[error(transparent)]
     MissingEnd(MissingEndInfo),
-    /// The proof is no encoding of what the step reads.
+    /// The bytes of the proof do not encode what the step reads.
     #[error("bad proof shape: {reason}")]
     BadProofShape {
-        /// What is wrong with it.
+        /// What is wrong with the bytes.
         reason: &'static str,
     },
-    /// The step does not fit the pattern that is recorded or played. Not in the Rust crate, which panics there.
+    /// The step does not fit the pattern that is recorded or played. The Rust crate panics there.
     #[error(transparent)]
     Pattern(PatternError),
-    /// The challenger refused a call, for another reason than memory. Not in the Rust crate.
+    /// The challenger refused a call, for a reason other than memory. Not in the Rust crate.
     #[error(transparent)]
     Challenger(ChallengerError),
-    /// The label of an instance would be too long for its length to be written in four bytes. Not in the Rust crate.
+    /// The label of an instance would be too long for a length of four bytes. Not in the Rust crate.
     #[error("label too long")]
     LabelTooLong,
     /// An allocation was refused. Not in the Rust crate.
@@ -50,27 +50,27 @@ pub enum TranscriptError {
 
 /// A closer where nothing is open.
 ///
-/// The Rust crate's `MissingBeginInfo`.
+/// Corresponds to the Rust crate's `MissingBeginInfo`.
 #[derive(Clone, Copy, Debug, PartialEq, Eq, Error)]
 #[error("missing begin for {end} at position {position}")]
 pub struct MissingBeginInfo {
-    /// Where the closer stands among the steps.
+    /// The position of the closer among the steps.
     pub position: usize,
     /// The closer.
     pub end: Interaction,
 }
 
-/// A step, leaf or opener, of a kind that the container around it does not allow.
+/// A step, leaf or opener, of a kind that the enclosing container does not allow.
 ///
-/// The Rust crate's `InvalidKindInfo`.
+/// Corresponds to the Rust crate's `InvalidKindInfo`.
 #[derive(Clone, Copy, Debug, PartialEq, Eq, Error)]
 #[error("invalid kind {interaction} at {interaction_position} for sub-protocol {begin} opened at {begin_position}")]
 pub struct InvalidKindInfo {
-    /// Where the opener of the container stands among the steps.
+    /// The position of the container's opener among the steps.
     pub begin_position: usize,
     /// The opener of the container.
     pub begin: Interaction,
-    /// Where the step stands among the steps.
+    /// The position of the step among the steps.
     pub interaction_position: usize,
     /// The step.
     pub interaction: Interaction,
@@ -78,37 +78,37 @@ pub struct InvalidKindInfo {
 
 /// A closer that does not match the innermost opener that is still open.
 ///
-/// The Rust crate's `MismatchedBeginEndInfo`.
+/// Corresponds to the Rust crate's `MismatchedBeginEndInfo`.
 #[derive(Clone, Copy, Debug, PartialEq, Eq, Error)]
 #[error("mismatched begin {begin} at {begin_position} versus end {end} at {end_position}")]
 pub struct MismatchedBeginEndInfo {
-    /// Where the opener stands among the steps.
+    /// The position of the opener among the steps.
     pub begin_position: usize,
     /// The opener.
     pub begin: Interaction,
-    /// Where the closer stands among the steps.
+    /// The position of the closer among the steps.
     pub end_position: usize,
     /// The closer.
     pub end: Interaction,
 }
 
-/// An opener that is still open at the end, the innermost one.
+/// The innermost opener that is still open at the end.
 ///
-/// The Rust crate's `MissingEndInfo`.
+/// Corresponds to the Rust crate's `MissingEndInfo`.
 #[derive(Clone, Copy, Debug, PartialEq, Eq, Error)]
 #[error("missing end for {begin} opened at position {position}")]
 pub struct MissingEndInfo {
-    /// Where the opener stands among the steps.
+    /// The position of the opener among the steps.
     pub position: usize,
     /// The opener.
     pub begin: Interaction,
 }
 
-/// Why a step does not fit a pattern that is recorded or played.
+/// Says why a step does not fit a pattern that is recorded or played.
 ///
-/// `I` is what the steps are: an [`Interaction`] in a program, and in a contract also what it says.
+/// `I` is the type of the steps: an [`Interaction`] in a program, and in a contract also the meaning of one.
 ///
-/// Not in the Rust crate, which panics there.
+/// Not in the Rust crate, which panics in these cases.
 #[derive(Clone, Copy, Debug, PartialEq, Eq, Error)]
 #[error_bound(I: Display)]
 pub enum PatternError<I = Interaction> {
@@ -118,13 +118,13 @@ pub enum PatternError<I = Interaction> {
     /// The pattern has no step left.
     #[error("no more steps, received {received}")]
     NoMoreSteps {
-        /// The step that came.
+        /// The step that was received.
         received: I,
     },
     /// The pattern has another step next.
     #[error("received {received}, expected {expected}")]
     WrongStep {
-        /// The step that came.
+        /// The step that was received.
         received: I,
         /// The step that the pattern has next.
         expected: I,
@@ -135,12 +135,12 @@ pub enum PatternError<I = Interaction> {
         /// The first of them.
         expected: I,
     },
-    /// A list is longer than the step lets it be.
+    /// A list is longer than the step allows.
     #[error("length {len} exceeds {max}")]
     OverCap {
-        /// How long the list is.
+        /// The length of the list.
         len: usize,
-        /// How long it may be.
+        /// The greatest length that the step allows.
         max: usize,
     },
 }
@@ -175,8 +175,8 @@ impl<T: Drop> From<AllocFailed<T>> for TranscriptError {
 }
 
 impl PatternError {
-    /// Two errors compare equal exactly where they say the same: that of one variant, with the same steps and numbers,
-    /// wherever the steps' texts lie.
+    /// Two errors compare equal exactly where they have the same variant, steps and numbers, wherever the steps' texts
+    /// lie.
     ///
     /// A law: the body is empty, and a caller cites the clause.
     #[tactic(auto, using(crate::proofs::ErrorEquality::equal_pattern_errors))]
@@ -187,8 +187,8 @@ impl PatternError {
 }
 
 impl TranscriptError {
-    /// Two errors compare equal exactly where they say the same: that of one variant, with the same steps, numbers
-    /// and reason, wherever the texts lie.
+    /// Two errors compare equal exactly where they have the same variant, steps, numbers and reason, wherever the
+    /// texts lie.
     ///
     /// A law: the body is empty, and a caller cites the clause.
     #[tactic(auto, using(crate::proofs::ErrorEquality::equal_refusals))]

@@ -9,16 +9,17 @@ use p3_field_core::{AlgebraIdentity, Named};
 use p3_symmetric::DigestHasher;
 use std::fmt;
 
-/// What a step is called: a text of the program itself.
+/// The name of a step: a static string of the program.
 ///
-/// The Rust crate's `Label`.
+/// Corresponds to the Rust crate's `Label`.
 pub type Label = &'static str;
 
-/// One step of an interactive protocol: where it stands, what it is for, its label, and what it carries.
+/// One step of an interactive protocol: its hierarchy, its purpose, its label, and what it carries.
 ///
-/// Two steps are equal where all six of their parts are, the name of their type too.
+/// Two steps are equal where all six of their parts are, the name of their type included.
 ///
-/// The Rust crate's `Interaction`. Names of types come of [`Named`], and digests of a [`DigestHasher`].
+/// Corresponds to the Rust crate's `Interaction`. Here [`Named`] supplies the names of types, and a [`DigestHasher`]
+/// the digests.
 #[derive(Clone, Copy, Debug, PartialEq, Eq, PartialOrd, Ord, Hash)]
 pub struct Interaction {
     hierarchy: Hierarchy,
@@ -27,7 +28,7 @@ pub struct Interaction {
     type_tag: TypeTag,
     type_name: &'static str,
     length: Length,
-    /// Its numbers fit their types, and its texts are bytes.
+    /// The numbers of the step fit their types, and its texts are bytes.
     pub ghost fits: { IsProgramStep (step_with hierarchy kind label.now type_tag type_name.now
         length) } by { IsProgramStep-prop _ },
 }
@@ -59,8 +60,8 @@ impl Interaction {
         }
     }
 
-    /// A step that carries elements of an algebra `A` over the field `F`. `D` digests the identity of the algebra. A
-    /// step of scalars is the one with `A = F`. The hash function is Keccak-256 in the Rust crate.
+    /// Returns a step that carries elements of an algebra `A` over the field `F`. `D` digests the identity of the
+    /// algebra. For scalars, `A` is `F`. The hash function is Keccak-256 in the Rust crate.
     pub fn algebra<F: TranscriptField, A: AlgebraIdentity<F> + Named, D: DigestHasher>(
         hierarchy: Hierarchy,
         kind: Kind,
@@ -74,7 +75,7 @@ impl Interaction {
         Self::with_parts(hierarchy, kind, label, type_tag, A::type_name(), length)
     }
 
-    /// A step that carries bytes as they are. The name of its type is `u8`.
+    /// Returns a step that carries bytes as they are. The name of its type is `u8`.
     pub fn bytes(hierarchy: Hierarchy, kind: Kind, label: Label, length: Length) -> Self
         ensures { step_of result
             ≡ step_with hierarchy kind label.now TypeTag.Bytes (codes "u8") length }
@@ -89,7 +90,8 @@ impl Interaction {
         )
     }
 
-    /// A step whose value the challenger alone knows how to observe. The name of its type is `opaque`.
+    /// Returns a step of an opaque value, which only the challenger knows how to observe. The name of its type is
+    /// `opaque`.
     pub fn opaque(hierarchy: Hierarchy, kind: Kind, label: Label, length: Length) -> Self
         ensures { step_of result
             ≡ step_with hierarchy kind label.now TypeTag.Opaque (codes "opaque") length }
@@ -97,8 +99,8 @@ impl Interaction {
         Self::with_parts(hierarchy, kind, label, TypeTag::Opaque, "opaque", length)
     }
 
-    /// A step that draws numbers of `width` bits, as the challenger draws them, which may be with a bias. The name of
-    /// its type is `usize`.
+    /// Returns a step that draws numbers of `width` bits by the challenger's own rule, possibly with a bias. The name
+    /// of its type is `usize`.
     pub fn bits(
         hierarchy: Hierarchy,
         kind: Kind,
@@ -119,7 +121,7 @@ impl Interaction {
         )
     }
 
-    /// A step that draws numbers of `width` bits, each as often as any other. The name of its type is `usize`.
+    /// Returns a step that draws numbers of `width` bits, all equally likely. The name of its type is `usize`.
     pub fn uniform_bits(
         hierarchy: Hierarchy,
         kind: Kind,
@@ -140,8 +142,8 @@ impl Interaction {
         )
     }
 
-    /// The opener or the closer of a container, which carries nothing. `T` names the container for those who
-    /// read its steps.
+    /// Returns the opener or the closer of a container, which carries nothing. `T` names the container in the text of
+    /// the step.
     pub fn marker<T: Named>(hierarchy: Hierarchy, kind: Kind, label: Label) -> Self
         ensures { step_of result ≡ marker_of hierarchy kind label.now T.name_bytes }
     {
@@ -155,9 +157,9 @@ impl Interaction {
         )
     }
 
-    /// A step that carries values of the same type as this one. Nothing is hashed for it, so that many steps of one
-    /// algebra take one digest of its identity. Of a marker it makes a marker, whatever the length. Not in the Rust
-    /// crate.
+    /// Returns a step that carries values of the same type as this one. It hashes nothing, so that many steps of one
+    /// algebra need only one digest of its identity. For a marker the result is a marker, whatever the length. Not in
+    /// the Rust crate.
     pub fn of_same_type(
         &self,
         hierarchy: Hierarchy,
@@ -182,50 +184,50 @@ impl Interaction {
         )
     }
 
-    /// Where the step stands.
+    /// Returns whether the step opens or closes a container, or stands alone.
     pub fn hierarchy(&self) -> Hierarchy
         ensures { result ≡ (step_of self.now).hierarchy }
     {
         self.hierarchy
     }
 
-    /// What the step is for.
+    /// Returns the purpose of the step.
     pub fn kind(&self) -> Kind
         ensures { result ≡ (step_of self.now).kind }
     {
         self.kind
     }
 
-    /// What the step is called.
+    /// Returns the name of the step.
     pub fn label(&self) -> Label
         ensures { result.now ≡ (step_of self.now).label }
     {
         self.label
     }
 
-    /// What the values of the step are, for its digest.
+    /// Returns the tag of the step's values, as its digest has it.
     pub fn type_tag(&self) -> TypeTag
         ensures { result ≡ (step_of self.now).type_tag }
     {
         self.type_tag
     }
 
-    /// The name of the type of the step's values, for those who read it.
+    /// Returns the name of the type of the step's values, as its printed text has it.
     pub fn type_name(&self) -> &'static str
         ensures { result.now ≡ (step_of self.now).type_name }
     {
         self.type_name
     }
 
-    /// How many values the step carries.
+    /// Returns how many values the step carries.
     pub fn length(&self) -> Length
         ensures { result ≡ (step_of self.now).length }
     {
         self.length
     }
 
-    /// The first of two steps closes the other: it is an End, the other is a Begin, and all else of them is
-    /// the same, the name of the type too.
+    /// Returns whether this step closes the other: whether this one is an End and the other a Begin, with all other
+    /// parts the same. The other parts include the name of the type.
     pub fn closes(&self, other: &Self) -> bool
         ensures { IsTrue result ↔ Closes (step_of self.now) (step_of other.now) }
     {
@@ -238,15 +240,15 @@ impl Interaction {
             && self.length == other.length
     }
 
-    /// A program can hold each step: its numbers fit their types, and its texts are bytes.
+    /// A program can hold each of its steps: the numbers fit their types, and the texts are bytes.
     ///
     /// A law: the body is empty, and a caller cites the clause.
     pub fn each_fits_its_types()
         ensures { (i : Interaction) → IsProgramStep (step_of i) }
     {}
 
-    /// Two steps compare equal exactly where their six parts are the same, wherever their texts lie. Order and
-    /// hash agree with that, as they do of every type.
+    /// Two steps compare equal exactly where their six parts are the same, wherever their texts lie. Order and hash
+    /// agree with equality, as for every type.
     ///
     /// A law: the body is empty, and a caller cites the clause.
     #[tactic(auto, using(crate::proofs::StepEquality::equal_steps))]
@@ -275,10 +277,10 @@ impl fmt::Display for Interaction {
     }
 }
 
-/// A step that prints as it is hashed: with the length of its label before the label, and with the tag of its
-/// type in place of the type's name. It is what `{:#}` prints of the step.
+/// Prints a step as it is hashed, as `{:#}` does. The length of the label stands before the label, and the tag of the
+/// type in place of its name.
 ///
-/// Not in the Rust crate, where `{:#}` alone prints it.
+/// Not in the Rust crate, where only `{:#}` prints this text.
 #[derive(Clone, Copy)]
 pub struct Alternate<'a>(pub &'a Interaction);
 

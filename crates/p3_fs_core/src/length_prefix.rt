@@ -1,11 +1,11 @@
-//! The count of a bounded step: how many bytes it takes, and those bytes.
+//! The count of a bounded step: its width and its bytes.
 ghost use Rattle.std.specs.Prelude.{◌≡◌, ℕ, ◌-◌, ◌^◌, ◌<◌, ◌≤◌, ◌++◌, length, take, replicate};
 ghost use Rattle.p3_fs_core.specs.BigEndian.{big_endian, in_bytes, count_width};
 ghost use Rattle.p3_challenger_core.specs.Reading.{IsPrefixCodeOn};
 
 use crate::big_endian::{leading_bytes, number_of_bytes};
 
-/// The least number of bytes that hold every number up to `max`: 0 bytes for 0. Private in the Rust crate.
+/// Returns the least number of bytes that hold every number up to `max`: 0 bytes for 0. Private in the Rust crate.
 pub fn bound_byte_width(max: usize) -> usize
     ensures width { result ≡ count_width max }
     ensures enough { max < 256 ^ result }
@@ -16,10 +16,10 @@ pub fn bound_byte_width(max: usize) -> usize
     bits.div_ceil(8) as usize
 }
 
-/// A count in the first `width` bytes, the highest first, with zeros after.
+/// Returns a count in the first `width` bytes, highest first, with zeros after them.
 ///
-/// Conditions: `width` is at most 8, and the count fits in so many bytes. In the Rust crate it is private, and panics
-/// in their place.
+/// Conditions: `width` is at most 8, and the count fits in `width` bytes. In the Rust crate the function is private,
+/// and panics otherwise.
 #[tactic(auto, using(crate::proofs::Counting::counted_read_back))]
 pub fn encode_len_be(len: usize, width: usize) -> [u8; 8]
     requires width { width ≤ 8 }
@@ -30,10 +30,10 @@ pub fn encode_len_be(len: usize, width: usize) -> [u8; 8]
     leading_bytes(len as u64, width)
 }
 
-/// The count whose encoding in `width` bytes `buf` begins with.
+/// Returns the count whose encoding in `width` bytes stands at the head of `buf`.
 ///
-/// Conditions: `width` is at most 8, and `buf` has so many bytes. In the Rust crate it is private, and panics in
-/// their place.
+/// Conditions: `width` is at most 8, and `buf` has at least `width` bytes. In the Rust crate the function is private,
+/// and panics otherwise.
 #[tactic(auto, using(crate::proofs::Counting::counted_fits, crate::proofs::Counting::counted_encoded_back))]
 pub fn decode_len_be(buf: &[u8], width: usize) -> usize
     requires width { width ≤ 8 }

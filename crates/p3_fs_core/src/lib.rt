@@ -1,7 +1,7 @@
-//! What typed transcripts are made of: steps and their types, why a step is refused, and how elements of
-//! fields, byte strings and counts are encoded.
+//! The parts of typed transcripts: steps and their types, errors, and the encodings of field elements, byte
+//! strings and counts.
 //!
-//! What is called a law is a function without effect whose contract a caller cites. The Rust crate has none.
+//! A law is a function without effect whose contract a caller cites. The Rust crate has none.
 #![tactic(auto)]
 
 mod big_endian;

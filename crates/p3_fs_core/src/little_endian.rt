@@ -1,4 +1,4 @@
-//! Numbers as bytes, the lowest first.
+//! Numbers as bytes, lowest first.
 ghost use Rattle.std.specs.Prelude.{◌≡◌, ◌≤◌, length};
 ghost use Rattle.p3_fs_core.specs.Packing.{little_endian};
 

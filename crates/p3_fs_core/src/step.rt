@@ -1,4 +1,4 @@
-//! What a step of an interactive protocol is: where it stands, what it is for, and what it carries.
+//! The parts of a step of an interactive protocol: hierarchy, kind, length and type.
 
 ghost use Rattle.std.specs.{Prelude.{◌≡◌, Some}, Str.IsAscii};
 ghost use Rattle.p3_field_core.specs.Equality.{IsExact};
@@ -7,12 +7,12 @@ ghost use Rattle.p3_fs_core.specs.StepTexts.{hex_number};
 
 use std::fmt;
 
-/// Where a step stands in the nesting of protocols.
+/// Says whether a step opens or closes a container, or stands alone.
 ///
-/// The Rust crate's `Hierarchy`.
+/// Corresponds to the Rust crate's `Hierarchy`.
 #[derive(Clone, Copy, Debug, PartialEq, Eq, PartialOrd, Ord, Hash)]
 pub enum Hierarchy {
-    /// A step of its own.
+    /// A step that is no opener or closer.
     Atomic,
     /// The opener of a container.
     Begin,
@@ -20,18 +20,18 @@ pub enum Hierarchy {
     End,
 }
 
-/// What a step is for.
+/// The purpose of a step.
 ///
-/// The Rust crate's `Kind`.
+/// Corresponds to the Rust crate's `Kind`.
 #[derive(Clone, Copy, Debug, PartialEq, Eq, PartialOrd, Ord, Hash)]
 pub enum Kind {
-    /// A container of steps of every kind.
+    /// A container of steps of any kind.
     Protocol,
     /// Values that both sides know beforehand.
     Public,
-    /// Values that the prover sends, and that challenges depend on.
+    /// Values that the prover sends and that later challenges depend on.
     Message,
-    /// Values that the prover sends, and that no challenge depends on.
+    /// Values that the prover sends and that no challenge depends on.
     Hint,
     /// Values that both sides draw.
     Challenge,
@@ -41,27 +41,28 @@ pub enum Kind {
     Salt,
 }
 
-/// How many values a step carries.
+/// The number of values that a step carries.
 ///
-/// The Rust crate's `Length`.
+/// Corresponds to the Rust crate's `Length`.
 #[derive(Clone, Copy, Debug, PartialEq, Eq, PartialOrd, Ord, Hash)]
 pub enum Length {
-    /// None.
+    /// No value.
     None,
     /// One value, not in a list.
     Scalar,
-    /// A list of just so many; of a proof of work, its bits.
+    /// A list of exactly this many values; for a proof of work, its number of bits.
     Fixed(usize),
-    /// A list of at most so many, which is sent with its length, in as few bytes as the greatest takes.
+    /// A list of at most this many values, sent after its length. The length takes as few bytes as the
+    /// greatest one needs.
     Bounded(usize),
 }
 
-/// What the values of a step are, said in the same way on every machine and by every compiler.
+/// The type of a step's values, independent of machine and compiler.
 ///
-/// The Rust crate's `TypeTag`, which is `#[non_exhaustive]`.
+/// The Rust crate's `TypeTag` is `#[non_exhaustive]`.
 #[derive(Clone, Copy, Debug, PartialEq, Eq, PartialOrd, Ord, Hash)]
 pub enum TypeTag {
-    /// None: the step opens or closes a container.
+    /// No type: the step opens or closes a container.
     Marker,
     /// Bytes as they are.
     Bytes,
@@ -69,47 +70,47 @@ pub enum TypeTag {
     Algebra {
         /// The order of the field.
         modulus: u64,
-        /// How many coefficients an element has.
+        /// The number of coefficients of an element.
         degree: usize,
-        /// The digest of what the algebra and its basis are.
+        /// The digest of the identity of the algebra and its basis.
         basis: [u8; 32],
     },
-    /// Elements of an algebra over a field of a tower of binary fields.
+    /// Elements of an algebra over a field in a tower of binary fields.
     BinaryTower {
-        /// How many bits an element of the field has.
+        /// The number of bits of a field element.
         bits: usize,
-        /// How many coefficients an element has.
+        /// The number of coefficients of an element.
         degree: usize,
-        /// The digest of what the algebra and its basis are.
+        /// The digest of the identity of the algebra and its basis.
         basis: [u8; 32],
     },
     /// Elements of an algebra over a binary field of polynomials.
     BinaryPolynomial {
-        /// How many bits an element of the field has.
+        /// The number of bits of a field element.
         bits: usize,
-        /// The polynomial that the field is taken modulo, without its highest term.
+        /// The modulus of the field, a polynomial without its highest term.
         modulus: u128,
-        /// How many coefficients an element has.
+        /// The number of coefficients of an element.
         degree: usize,
-        /// The digest of what the algebra and its basis are.
+        /// The digest of the identity of the algebra and its basis.
         basis: [u8; 32],
     },
-    /// A value that the challenger alone knows how to observe.
+    /// A value that only the challenger knows how to observe.
     Opaque,
-    /// Numbers of so many bits, which may be drawn with a bias.
+    /// Numbers of `width` bits, possibly drawn with a bias.
     Bits {
-        /// How many bits a number has.
+        /// The number of bits of each number.
         width: usize,
     },
-    /// Numbers of so many bits, each drawn as often as any other.
+    /// Numbers of `width` bits, all equally likely.
     UniformBits {
-        /// How many bits a number has.
+        /// The number of bits of each number.
         width: usize,
     },
 }
 
 impl Hierarchy {
-    /// Two places compare equal exactly where they are one.
+    /// Two hierarchies compare equal exactly where they are the same.
     ///
     /// A law: the body is empty, and a caller cites the clause.
     #[tactic(auto, using(crate::proofs::StepEquality::equal_hierarchies))]
@@ -119,7 +120,7 @@ impl Hierarchy {
 }
 
 impl Kind {
-    /// Two kinds compare equal exactly where they are one.
+    /// Two kinds compare equal exactly where they are the same.
     ///
     /// A law: the body is empty, and a caller cites the clause.
     #[tactic(auto, using(crate::proofs::StepEquality::equal_kinds))]
@@ -129,7 +130,7 @@ impl Kind {
 }
 
 impl Length {
-    /// Two lengths compare equal exactly where they are one.
+    /// Two lengths compare equal exactly where they are the same.
     ///
     /// A law: the body is empty, and a caller cites the clause.
     #[tactic(auto, using(crate::proofs::StepEquality::equal_lengths))]
@@ -139,7 +140,7 @@ impl Length {
 }
 
 impl TypeTag {
-    /// Two tags compare equal exactly where they are one.
+    /// Two tags compare equal exactly where they are the same.
     ///
     /// A law: the body is empty, and a caller cites the clause.
     #[tactic(auto, using(crate::proofs::StepEquality::equal_type_tags))]

@@ -1,4 +1,4 @@
-//! What a prime field has in a transcript: its encoding, and how a challenger of it observes a seed.
+//! A prime field in a transcript: the encoding of its elements, and the observation of a seed.
 ghost use Rattle.std.specs.Prelude.{◌≡◌, ℕ, ◌<◌, ◌≤◌, List, ◌++◌, length, take, drop, flat_map, Ok, OnOk, OnErr, IfOk};
 ghost use Rattle.std.specs.Prelude.{IfErr};
 ghost use Rattle.p3_challenger_core.specs.{Observation.{observed_all, LeavesInCalls}, Sponge.IsFed};
@@ -12,13 +12,13 @@ use crate::{TranscriptError, TypeTag};
 use p3_challenger_core::{CanObserve, ChallengerError};
 use p3_field_core::PrimeField64;
 
-/// A field whose elements stand in a transcript: each has one encoding in the proof, its canonical
-/// number with the highest byte first, in as few bytes as the order needs.
+/// A field whose elements stand in a transcript. Each element has one encoding in the proof: its canonical number,
+/// highest byte first, in as few bytes as the order needs.
 ///
-/// Every [`PrimeField64`] is one, and no other implementation can be. The Rust crate's `TranscriptField`, which other
-/// fields may implement too.
+/// Every [`PrimeField64`] implements this trait, and no other type can. The Rust crate's `TranscriptField` is open to
+/// other fields too.
 pub trait TranscriptField: PrimeField64 {
-    /// The tag of an algebra over this field, of so many coefficients, whose identity has this digest.
+    /// Returns the tag of an algebra over this field, of this degree and with this digest of its identity.
     final fn algebra_tag(degree: usize, basis: [u8; 32]) -> TypeTag
         ensures { result ≡ TypeTag.Algebra Self.residues.order degree basis }
     {
@@ -29,12 +29,12 @@ pub trait TranscriptField: PrimeField64 {
         }
     }
 
-    /// Observes a byte string as the alphabet `FieldUnit` does: its length, and then its chunks. The
-    /// field has more than 256 elements.
+    /// Observes a byte string as the alphabet `FieldUnit` does: its length, followed by its chunks. The field has
+    /// more than 256 elements.
     ///
     /// The errors are [`ChallengerError::TooLong`] where the length is not below the order, with nothing absorbed,
-    /// and [`ChallengerError::OutOfMemory`], with a beginning of the elements observed, and of the next one what its
-    /// observe leaves. The Rust crate panics where it is too long.
+    /// and [`ChallengerError::OutOfMemory`]. The latter leaves a prefix of the elements observed, plus what the
+    /// refused observation leaves. The Rust crate panics where the string is too long.
     final fn observe_seed<C: CanObserve<Self>>(
         challenger: &mut C,
         bytes: &[u8],
@@ -61,7 +61,7 @@ pub trait TranscriptField: PrimeField64 {
         observe_packed(challenger, bytes)
     }
 
-    /// How many bytes an element takes in the proof: at most 8, and as few as the order needs.
+    /// Returns the number of bytes of an element in the proof: at most 8, and as few as the order needs.
     final fn wire_len() -> usize
         ensures width { result ≡ (encoding Self.residues Self.bit_length).width }
         ensures most { result ≤ 8 }
@@ -69,10 +69,10 @@ pub trait TranscriptField: PrimeField64 {
         Self::bits().div_ceil(8)
     }
 
-    /// Adds the encoding of an element at the end of `out`.
+    /// Appends the encoding of an element to `out`.
     ///
-    /// The one error is [`TranscriptError::OutOfMemory`], which leaves a beginning of it added. It answers no error
-    /// in the Rust crate.
+    /// The one error is [`TranscriptError::OutOfMemory`], which leaves a prefix of the encoding appended. In the Rust
+    /// crate this function returns no error.
     final fn encode(value: &Self, out: &mut Vec<u8>) -> Result<(), TranscriptError>
         ensures ok { OnOk result (out.new.items
             ≡ out.old.items ++ (encoding Self.residues Self.bit_length).wire value.now) }
@@ -85,12 +85,12 @@ pub trait TranscriptField: PrimeField64 {
         Ok(())
     }
 
-    /// The element whose encoding `bytes` begin with: their first
+    /// Returns the element whose encoding stands at the head of `bytes`, in the first
     /// [`wire_len`](TranscriptField::wire_len) bytes.
     ///
-    /// The one error is [`TranscriptError::BadProofShape`]: with `not enough bytes for a canonical field
-    /// encoding` where there are fewer bytes, and else with `field encoding outside canonical range`
-    /// where their number is not below the order. It takes no memory.
+    /// The one error is [`TranscriptError::BadProofShape`]. Its reason is `not enough bytes for a canonical field
+    /// encoding` where there are fewer bytes. It is `field encoding outside canonical range` where their number is
+    /// not below the order. This call takes no memory.
     final fn decode(bytes: &[u8]) -> Result<Self, TranscriptError>
         ensures exact { Decodes ((encoding Self.residues Self.bit_length).read bytes.now) result }
         ensures found { IfOk result (λ x. bytes.now ≡ (encoding Self.residues Self.bit_length).wire

@@ -10,11 +10,11 @@ order = 18446744069414584321
 abbrev pub number : Goldilocks → ℕ
 number x = x.value
 
--- what is left of a number modulo the order is below the order
+-- the remainder of a number modulo the order is below the order
 pub remainder_below : (n : ℕ) → n % order < order
 remainder_below n = mod-lt n (lit< tt)
 
--- the element that a number is modulo the order
+-- the element of a number modulo the order
 abbrev pub element : ℕ → Goldilocks
 element n = record { value = n % order; canonical = remainder_below n }
 

@@ -1,4 +1,5 @@
-//! The prime field of order 2^64 - 2^32 + 1, its elements as their numbers below the order.
+//! The prime field of order 2^64 - 2^32 + 1, whose elements are stored as their numbers below the
+//! order.
 ghost use Rattle.std.{specs.{Prelude.{◌<◌, ◌≡◌, Some, refl, codes}, Ordering.nat_cmp}, proofs.Common.{lit<, lit≤}};
 ghost use Rattle.p3_field_core.specs.Residues.{sum_of, difference_of, product_of};
 ghost use Rattle.std.specs.Hash as fed;
@@ -13,11 +14,12 @@ use p3_field_core::{
 use std::hash::Hash;
 use std::ops::{Add, Mul, Sub};
 
-/// An element of the prime field of order 2^64 - 2^32 + 1, kept as its canonical number.
+/// An element of the prime field of order 2^64 - 2^32 + 1, stored as its canonical number.
 ///
-/// The number is below the order, and the type says so: two equal elements have equal numbers.
+/// The number is below the order, by an invariant of the type, so equal elements have equal
+/// numbers.
 ///
-/// The field of the crate `p3-goldilocks`.
+/// The field of the Rust crate `p3-goldilocks`.
 #[derive(Clone, Copy, Debug, PartialEq, Eq, PartialOrd, Ord, Hash)]
 pub struct Goldilocks {
     value: u64,
@@ -42,7 +44,7 @@ impl Goldilocks {
 impl Goldilocks {
     ghost use Rattle.p3_goldilocks.specs.GoldilocksResidues.{number};
 
-    /// Elements are ordered as their canonical numbers are, and hashed as those.
+    /// Elements are ordered and hashed as their canonical numbers are.
     ///
     /// A law: the body is empty, and a caller cites the clauses.
     pub fn ordered_and_hashed_by_numbers()

@@ -12,7 +12,7 @@ use Rattle.p3_grinding.specs.Candidates.{accepted_of, accepted_within, EachRefus
 module _ {S T : Type 0} (d : Sampling S T) (accepts : T → Bool) where
   -- ---- such a draw is a draw
 
-  -- what comes of a candidate
+  -- the result for a candidate
   next_accepted : ℕ → S → T → Option T
   next_accepted more t x = if accepts x then Some x else first_accepted d accepts more t
 
@@ -77,14 +77,14 @@ module _ {S T : Type 0} (d : Sampling S T) (accepts : T → Bool) where
   next-is None rest x later e = search (rules, e)
   next-is (Some y) rest x later e = chosen-is (accepts y) y rest x refl later e
 
-  -- what is given is accepted
+  -- the result is an accepted candidate
   pub accepted-is : (limit : ℕ) (s : S) (x : T) → first_accepted d accepts limit s ≡ Some x → accepts x ≡ true
   unfolding first_accepted
   accepted-is zero s x e = search (rules, e)
   accepted-is (suc more) s x e =
       next-is (d.sampled s) (first_accepted d accepts more (d.after s)) x (accepted-is more (d.after s) x) e
 
-  -- where no draw is refused for memory, none of them is
+  -- if no draw is refused for memory, none of the candidates is
   pub none_left_behind : ((s t : S) → ¬ (d.may_leave s t)) → (limit : ℕ) (s t : S) → ¬ (MayLeave d accepts limit s t)
   unfolding MayLeave
   none_left_behind never zero s t h = h
@@ -93,14 +93,14 @@ module _ {S T : Type 0} (d : Sampling S T) (accepts : T → Bool) where
 
   -- ---- candidate by candidate
 
-  -- Of so many candidates the first ones were refused: what is left of them goes on from here.
+  -- The first candidates within the limit were rejected; the remaining ones continue from here.
   pub record Seeks (limit : ℕ) (start : S) (left : ℕ) (here : S) : Type 0 where
     pub gives : first_accepted d accepts limit start ≡ first_accepted d accepts left here
     pub reached : after_first_accepted d accepts limit start ≡ after_first_accepted d accepts left here
     pub limited : MeetsLimit d accepts left here → MeetsLimit d accepts limit start
     pub refused : (t : S) → MayLeave d accepts left here t → MayLeave d accepts limit start t
 
-  -- the same at a count: i of them were refused
+  -- The first i candidates were rejected, and the remaining ones continue from here.
 
   pub seeks-start : (limit : ℕ) (start : S) → Seeks limit start (limit - 0) start
   seeks-start limit start =
@@ -121,7 +121,7 @@ module _ {S T : Type 0} (d : Sampling S T) (accepts : T → Bool) where
 
     module _ (there : S) (x : T) (more : i < limit) (drawn : d.sampled here ≡ Some x) (after : there ≡ d.after here)
         (so_far : Seeks limit start (limit - i) here) where
-      -- a candidate more is refused
+      -- one more candidate is rejected
       pub seeks-next : accepts x ≡ false → Seeks limit start (limit - (i + 1)) there
       unfolding first_accepted after_first_accepted MeetsLimit MayLeave next_accepted
       seeks-next test =
@@ -140,7 +140,7 @@ module _ {S T : Type 0} (d : Sampling S T) (accepts : T → Bool) where
             refused = λ t h. at.refused t (inr (x, drawn, test, h));
           })
 
-      -- it is accepted
+      -- the candidate is accepted
       pub seeks-gives : accepts x ≡ true → first_accepted d accepts limit start ≡ Some x
       unfolding first_accepted next_accepted
       seeks-gives test =
@@ -160,7 +160,7 @@ module _ {S T : Type 0} (d : Sampling S T) (accepts : T → Bool) where
           ∙ ap (λ o. after_refused accepts (after_first_accepted d accepts left) o (d.after here)) drawn
           ∙ ap (λ b. if b then d.after here else after_first_accepted d accepts left (d.after here)) test)
 
-    -- none of them is left
+    -- no candidate remains
     none_left : limit ≤ i → limit - i ≡ 0
     none_left h = omega arith
 
@@ -196,7 +196,7 @@ none_is_not is = search (rules, is)
 some_is_not : {T : Type 0} (x : T) → Some x ≡ None → ⊥
 some_is_not x e = search (rules, e)
 
--- what is made of a drawn value is none where it is
+-- a function of a missing value is missing
 pub made_none : {T U : Type 0} (f : T → U) (o : Option T) → (option_map f o ≡ None ↔ o ≡ None)
 made_none f None = (λ h. refl, λ h. refl)
 made_none f (Some x) = (λ h. absurd (some_is_not (f x) h), λ h. absurd (some_is_not x h))
@@ -262,7 +262,7 @@ module _ {S T : Type 0} (d : Sampling S T) (accepts : T → Bool) where
         let first = h 0 (omega arith) in
         inr (first.0, first.1, first.2, refused_each more (d.after s) (λ k below. h (suc k) (sooner k more below)))
 
-    -- the first accepted one of so many candidates, and what is made of it
+    -- the first accepted candidate within the limit, and a function of it
     pub limit-met_exactly : {U : Type 0} (f : T → U) (limit : S → ℕ)
         → MeetsLimitExactly d accepts limit (made_of f (accepted_within d accepts limit))
     limit-met_exactly f limit =

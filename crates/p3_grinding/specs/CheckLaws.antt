@@ -11,7 +11,7 @@ use Rattle.p3_grinding.specs.{UniformDraws.{UniformDraw, IsUniformDraw}, Checks.
 use Rattle.p3_grinding.specs.Checks.{all_zero, zero_and_uniform, draws_nothing, checked, check_of}
 use Rattle.p3_field_core.specs.Residues.{Residues}
 
--- where a draw meets its limit it gives nothing
+-- a draw that meets its limit gives nothing
 abbrev pub LimitGivesNone : {S T : Type 0} → Sampling S T → Type 0
 LimitGivesNone {S} d = (s : S) → d.meets_limit s → d.sampled s ≡ None
 
@@ -40,7 +40,7 @@ then_none (Some x) o none = none
 is_not : false ≡ true → ⊥
 is_not is = search (rules, is)
 
--- what is made of a drawn value is refused where that value is
+-- a draw of a function of a value is refused where the draw of the value is
 pub made_of-refused : {S T U : Type 0} (f : T → U) (d : Sampling S T) (e : ChallengerError) (s t : S)
     → RefusesDraw d e s t → RefusesDraw (made_of f d) e s t
 made_of-refused f d OutOfMemory s t h = h
@@ -62,7 +62,7 @@ module _ {S Symbol W : Type 0} (before : Sampling S (Unit {0})) (o : Observation
   check-limit first second zero witness s h = absurd h
   check-limit first second (suc more) witness s h = checked-limit first second witness s h
 
-  -- a check whose test is refused is refused
+  -- a check with a refused test is refused
   tested_after : (ready : Option (Unit {0})) (s t : S) → IsSome ready → (if is_some ready then s else t) ≡ s
   tested_after None s t is = absurd (is_not is)
   tested_after (Some x) s t is = refl
@@ -93,7 +93,7 @@ module _ {S Symbol : Type 0} (next : S → S) (o : Observation S Symbol (List �
       (subst (λ v. RefusesDraw (made_of accepted (in_row d size)) e v t) observed
       (made_of-refused accepted (in_row d size) e u t (refused-in_row next d laws size e u t h)))
 
--- a search whose copies and checks are not refused for memory is not
+-- a search is not refused for memory if no copy or check is
 pub search-takes_no_memory : {S W : Type 0} (r : Residues W) (check : W → Sampling S Bool)
     → ((witness : W) (s t : S) → ¬ ((check witness).may_leave s t)) → (e : ChallengerError) (s t : S)
     → RefusesSearch r (MayRunOut ⊥ check) check e s t → RefusesSearch r (λ _. ⊥) check e s t

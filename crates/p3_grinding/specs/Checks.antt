@@ -1,4 +1,4 @@
--- Proof of work: when a witness passes, what its check leaves, and the least witness that passes.
+-- Proof of work: the check of a witness, the state after it, and the least witness that passes.
 use Rattle.std.specs.Prelude.{◌≡◌, ℕ, zero, suc, ◌==◌, ◌<◌, ◌⊎◌, Bool, true, false, List, Option, Some, None, IsSome}
 use Rattle.std.specs.{Prelude.{Result, MatchResult, is_some, option_and_then, if◌then◌else◌}, Option.option_map}
 use Rattle.p3_field_core.specs.Residues.{Residues}
@@ -9,11 +9,11 @@ use Rattle.p3_grinding.specs.UniformDraws.{UniformDraw}
 
 -- ---- a check
 
--- the bits that are drawn are all 0
+-- the drawn bits are all 0
 abbrev pub all_zero : {S : Type 0} → Sampling S ℕ → Sampling S Bool
 all_zero d = made_of (λ n. n == 0) d
 
--- the same of uniform bits; where a value is rejected, they are not
+-- the drawn uniform bits are all 0, and no value was rejected
 abbrev pub zero_and_uniform : {S : Type 0} → UniformDraw S → Sampling S Bool
 zero_and_uniform u = record {
   sampled = λ s. if is_some (u.rejects s) then Some false else option_map (λ n. n == 0) (u.draw.sampled s);
@@ -26,8 +26,8 @@ zero_and_uniform u = record {
 abbrev pub draws_nothing : {S : Type 0} → Sampling S (Unit {0})
 draws_nothing = unrefused_draw (λ _. Some tt) (λ s. s)
 
--- What a check of a witness answers, which is none where a draw meets its limit, and what it leaves: it draws what
--- comes before the witness, observes the witness, and tests what is drawn then.
+-- The result of a witness's check, which is missing where a draw meets its limit, and the state after it. The check
+-- makes the draws before the witness, observes the witness, and tests the draw after it.
 abbrev pub checked : {S Symbol W : Type 0} → Sampling S (Unit {0}) → Observation S Symbol W → Sampling S Bool → W →
     Sampling S Bool
 checked before o test witness =
@@ -41,63 +41,63 @@ checked before o test witness =
           × (o.may_leave (ready s) witness t ⊎ test.may_leave (o.observed (ready s) witness) t));
     }
 
--- with 0 bits each witness passes, and nothing is touched
+-- with 0 bits each witness passes, and nothing changes
 abbrev pub passed : {S : Type 0} → Sampling S Bool
 passed = unrefused_draw (λ _. Some true) (λ s. s)
 
--- a check of so many bits
+-- a check by a number of bits
 abbrev pub check_of : {S Symbol W : Type 0} → Sampling S (Unit {0}) → Observation S Symbol W → Sampling S Bool → ℕ → W →
     Sampling S Bool
 check_of before o test zero witness = passed
 check_of before o test (suc more) witness = checked before o test witness
 
 module _ {S Symbol W : Type 0} (o : Observation S Symbol W) where
-  -- a check of so many bits, by how the bits are drawn
+  -- a check by a number of bits, given the draw of bits
   abbrev pub bits_check : Sampling S (Unit {0}) → (ℕ → Sampling S ℕ) → ℕ → W → Sampling S Bool
   bits_check before sampling bits = check_of before o (all_zero (sampling bits)) bits
 
-  -- the same where what comes before the witness is drawn already, and there are bits
+  -- a check of at least one bit, after the draws before the witness are done
   abbrev pub ready_check : (ℕ → Sampling S ℕ) → ℕ → W → Sampling S Bool
   ready_check sampling bits = checked draws_nothing o (all_zero (sampling bits))
 
-  -- both of uniform bits, where another value is drawn in the place of a rejected one, or is not
+  -- both kinds of checks with uniform bits, where a rejected value is replaced by another draw or not
   abbrev pub uniform_check : Sampling S (Unit {0}) → (Bool → ℕ → UniformDraw S) → Bool → ℕ → W → Sampling S Bool
   uniform_check before uniform resample bits = check_of before o (zero_and_uniform (uniform resample bits)) bits
 
   abbrev pub ready_uniform_check : (Bool → ℕ → UniformDraw S) → Bool → ℕ → W → Sampling S Bool
   ready_uniform_check uniform resample bits = checked draws_nothing o (zero_and_uniform (uniform resample bits))
 
--- A check of a candidate that feeds bytes as one slice, and tests as many bytes as are drawn then.
+-- A check of a candidate of bytes: the bytes are observed as one slice, and the bytes drawn after them are tested.
 abbrev pub byte_check : {S Symbol : Type 0} → Observation S Symbol (List ℕ) → Sampling S (List ℕ) → (ℕ → List ℕ) →
     (List ℕ → Bool) → ℕ → Sampling S Bool
 byte_check o d encoded accepted n = checked draws_nothing o (made_of accepted d) (encoded n)
 
 -- ---- a search
 
--- of candidates in order, one passes its check
+-- the candidate at this place passes its check
 abbrev pub PassesAt : {S : Type 0} → (ℕ → Sampling S Bool) → S → ℕ → Type 0
 PassesAt check s n = (check n).sampled s ≡ Some true
 
--- the first candidate that passes, of so many
+-- the first of n candidates that passes
 pub record IsFirst {S : Type 0} (check : ℕ → Sampling S Bool) (s : S) (count n : ℕ) : Type 0 where
   pub below : n < count
   pub passes : PassesAt check s n
   pub first : (k : ℕ) → k < n → ¬ (PassesAt check s k)
 
--- none of so many candidates passes
+-- none of n candidates passes
 abbrev pub NoneOf : {S : Type 0} → (ℕ → Sampling S Bool) → S → ℕ → Type 0
 NoneOf check s count = (n : ℕ) → n < count → ¬ (PassesAt check s n)
 
--- what a search for a candidate finds: the first one, or none where none passes
+-- the result of a search for a candidate: the first one that passes, or none
 abbrev pub Finds : {S : Type 0} → (ℕ → Sampling S Bool) → S → ℕ → Option ℕ → Type 0
 Finds check s count None = NoneOf check s count
 Finds check s count (Some n) = IsFirst check s count n
 
--- a check accepts the witness of a number
+-- a check accepts the witness with this number
 abbrev pub Passes : {S W : Type 0} → Residues W → (W → Sampling S Bool) → S → ℕ → Type 0
 Passes r check s n = (check (r.of n)).sampled s ≡ Some true
 
--- the witness is the one of the least number that passes
+-- the passing witness with the least number
 pub record IsLeast {S W : Type 0} (r : Residues W) (check : W → Sampling S Bool) (s : S) (witness : W) : Type 0 where
   pub passes : (check witness).sampled s ≡ Some true
   pub least : (n : ℕ) → n < r.number witness → ¬ (Passes r check s n)
@@ -106,35 +106,35 @@ pub record IsLeast {S W : Type 0} (r : Residues W) (check : W → Sampling S Boo
 abbrev pub NonePasses : {S W : Type 0} → Residues W → (W → Sampling S Bool) → S → Type 0
 NonePasses r check s = (n : ℕ) → n < r.order → ¬ (Passes r check s n)
 
--- a search for a witness may be refused for memory: a copy may be, or the check of a witness
+-- a search for a witness may run out of memory where a copy or a check may
 abbrev pub MayRunOut : {S W : Type 0} → Type 0 → (W → Sampling S Bool) → S → Type 0
 MayRunOut {S} {W} copies_may_fail check s = copies_may_fail ⊎ ((witness : W) × (t : S) × (check witness).may_leave s t)
 
--- what a search that answers this error leaves: the challenger as it was; there is no witness, or memory was refused
+-- what a search with this error leaves: the challenger as it was, with no witness or with memory refused
 abbrev pub RefusesSearch : {S W : Type 0} → Residues W → (S → Type 0) → (W → Sampling S Bool) → ChallengerError → S →
     S → Type 0
 RefusesSearch r may_run_out check OutOfMemory s t = may_run_out s × (t ≡ s)
 RefusesSearch r may_run_out check NoWitness s t = NonePasses r check s × (t ≡ s)
 RefusesSearch r may_run_out check _ s t = ⊥
 
--- the same of a search that tests each candidate on a copy of the challenger
+-- what a search by trials on copies of the challenger leaves with this error
 abbrev pub RefusesTrials : {S W : Type 0} → Residues W → Type 0 → (W → Sampling S Bool) → ChallengerError → S → S → Type 0
 RefusesTrials r copies_may_fail check = RefusesSearch r (MayRunOut copies_may_fail check) check
 
--- a search finds the least witness that passes, and leaves what its check leaves; or it is refused
+-- a search finds the least witness that passes and leaves the state after its check, or is refused
 abbrev pub FindsOrRefuses : {S W : Type 0} → Residues W → (S → Type 0) → (W → Sampling S Bool) → S →
     Result W ChallengerError → S → Type 0
 FindsOrRefuses r may_run_out check s result t =
     MatchResult result (λ witness. IsLeast r check s witness × (t ≡ (check witness).after s))
     (λ e. RefusesSearch r may_run_out check e s t)
 
--- the same of a search that tests each candidate on a copy of the challenger
+-- a search by trials on copies of the challenger finds the least witness that passes, or is refused
 abbrev pub TriesOrRefuses : {S W : Type 0} → Residues W → Type 0 → (W → Sampling S Bool) → S →
     Result W ChallengerError → S → Type 0
 TriesOrRefuses r copies_may_fail check = FindsOrRefuses r (MayRunOut copies_may_fail check) check
 
--- why no copy of a challenger is made ready for witnesses: memory was refused, or what is drawn before a witness
--- meets a limit, so that there is no witness
+-- why no copy of a challenger is made ready for witnesses: memory was refused, or a draw before the witness meets a
+-- limit
 abbrev pub RefusesReady : {S : Type 0} → Type 0 → Sampling S (Unit {0}) → ChallengerError → S → Type 0
 RefusesReady {S} copies_may_fail before OutOfMemory s = copies_may_fail ⊎ ((t : S) × before.may_leave s t)
 RefusesReady copies_may_fail before NoWitness s = before.sampled s ≡ None

@@ -155,7 +155,7 @@ module _ {S : Type 0} (next : S → S) (resample : Bool) (count : ℕ) (low high
   halves-leaves s t (inr later) =
       steps-then next s (low.draw.after s) t (first.draws.steps s) (second.draws.leaves (low.draw.after s) t later.1)
 
-  -- which of the two rejects
+  -- which of the two halves rejects
   rejects_by : (o p : Option ℕ) (q r : Option ResamplingError) → (IsSome q → o ≡ None) → (IsSome r → p ≡ None)
       → IsSome (if is_some o then r else q) → both o p ≡ None
   unfolding both
@@ -202,7 +202,7 @@ module _ {S : Type 0} (next : S → S) (resample : Bool) (count : ℕ) (low high
             (first.above s e) (second.above (low.draw.after s) e) is;
       }
 
-  -- where each half gives its bits, both give them together
+  -- if each half gives its bits, both give them together
   pub halves-sampled : (s : S) (x y : ℕ) → low.draw.sampled s ≡ Some x → high.draw.sampled (low.draw.after s) ≡ Some y
       → (in_halves count low high).draw.sampled s ≡ Some (x + 2 ^ count * y)
   unfolding both
@@ -224,7 +224,7 @@ module _ {S : Type 0} (next : S → S) (resample : Bool) (count : ℕ) (low high
   limit_refused NoWitness s t h = absurd h
   limit_refused TooLong s t h = absurd h
 
-  -- where the low half is refused, both are
+  -- if the low half is refused, both are
   pub halves-refused : (e : UniformBitsError) (s t : S) → RefusesUniform low e s t
       → RefusesUniform (in_halves count low high) e s t
   halves-refused (Resampling error) s t h =

@@ -6,24 +6,24 @@ use Rattle.p3_challenger_core.specs.Sampling.{Sampling, IsSampling, RefusesDraw,
 use Rattle.p3_grinding.specs.{Candidates.accepted_within, declared.error.ResamplingError.ResamplingError}
 use Rattle.p3_grinding.specs.declared.error.UniformBitsError.{UniformBitsError, TheVariants.{Resampling, Challenger}}
 
--- a draw of bits, and the value that it rejects, where it may not draw another one in its place
+-- a draw of bits, and the rejected value where it is not replaced
 pub record UniformDraw (S : Type 0) : Type 1 where
   pub draw : Sampling S ℕ
   pub rejects : S → Option ResamplingError
 
--- what a draw of uniform bits that answers this error leaves: it rejects a value, which is consumed with those before
--- it; or it is refused as every draw
+-- What a draw of uniform bits with this error leaves. Either a value was rejected and is consumed with those before
+-- it, or the draw was refused as any other draw.
 abbrev pub RefusesUniform : {S : Type 0} → UniformDraw S → UniformBitsError → S → S → Type 0
 RefusesUniform u (Resampling error) s t = (u.rejects s ≡ Some error) × (t ≡ u.draw.after s)
 RefusesUniform u (Challenger e) s t = RefusesDraw u.draw e s t
 
--- a call gives uniform bits and leaves the state after them, or is refused and leaves what its error may leave
+-- a call gives uniform bits and leaves the state after them, or is refused and leaves the state of its error
 abbrev pub DrawsUniformly : {S : Type 0} → UniformDraw S → S → Result ℕ UniformBitsError → S → Type 0
 DrawsUniformly u s result t =
     MatchResult result (λ x. (u.draw.sampled s ≡ Some x) × (t ≡ u.draw.after s)) (λ e. RefusesUniform u e s t)
 
--- A draw that rejects a value gives nothing, and meets no limit; the value is not below its bound. One that may draw
--- another value in its place rejects none.
+-- A draw that rejects a value gives nothing and meets no limit, and the value is not below its bound. A draw that
+-- replaces rejected values reports no rejection.
 pub record IsUniformDraw {S : Type 0} (next : S → S) (resample : Bool) (u : UniformDraw S) : Type 0 where
   pub draws : IsSampling next u.draw
   pub rejected_gives_none : (s : S) → IsSome (u.rejects s) → u.draw.sampled s ≡ None
@@ -54,7 +54,7 @@ abbrev pub rejected : {F : Type 0} → Residues F → ℕ → Option F → Optio
 rejected r bound None = None
 rejected r bound (Some x) = if is_below r bound x then None else Some (record { value = r.number x; m = bound })
 
--- the bits of the next element, where it is below the bound: another one is not drawn
+-- the bits of the next element, if it is below the bound; a rejected one is not replaced
 abbrev pub bits_of_next : {S F : Type 0} → Residues F → Sampling S F → ℕ → ℕ → UniformDraw S
 bits_of_next r d bound bits = record {
   draw = record {
@@ -78,7 +78,7 @@ bits_of_one r d limit false bound bits = bits_of_next r d bound bits
 
 -- ---- bits in two halves
 
--- one draw, and then another for the bits above it
+-- one draw, followed by another for the bits above it
 abbrev pub in_halves : {S : Type 0} → ℕ → UniformDraw S → UniformDraw S → UniformDraw S
 in_halves low_count low high = record {
   draw = record {

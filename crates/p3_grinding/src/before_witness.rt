@@ -1,21 +1,21 @@
-//! What a check draws before it observes the witness. A search does it once for all its candidates.
+//! The draws of a check before it observes the witness. A search makes them once for all its candidates.
 ghost use Rattle.std.specs.Prelude.{◌≡◌, Some, OnOk, IfErr};
 ghost use Rattle.p3_challenger_core.specs.Sampling.{Sampling, IsSampling, RefusesDraw};
 
 use p3_challenger_core::{ChallengerError, Sponge};
 
-/// A challenger that knows what a check of a witness draws before it observes the witness.
+/// A challenger that defines the draws of a witness's check before it observes the witness.
 ///
 /// Not in the Rust crate, where each check of a serializing challenger has a body of its own.
 pub trait BeforeWitness: Sponge {
     // What is drawn before a witness is observed.
     ghost before_witness: { Sampling Self.State (Unit {0}) };
 
-    /// Draws what a check of at least one bit draws before it observes the witness: one byte for a challenger that is
-    /// made of a challenger of bytes, and nothing for the others.
+    /// Makes the draws of a check of at least one bit before it observes the witness. A challenger over a challenger
+    /// of bytes draws one byte, and the others draw nothing.
     ///
-    /// The errors are those of [`CanSample::sample`](p3_challenger_core::CanSample::sample). They leave what they
-    /// leave there.
+    /// The errors are those of [`CanSample::sample`](p3_challenger_core::CanSample::sample), with the same state
+    /// after them.
     fn draw_before_witness(&mut self) -> Result<(), ChallengerError>
         ensures drawn { OnOk result (before_witness.sampled (Self.state self.old) ≡ Some tt) }
         ensures after { OnOk result

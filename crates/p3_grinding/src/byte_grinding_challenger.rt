@@ -1,4 +1,5 @@
-//! Candidates of bytes: each is observed on a copy of the challenger, and passes by the bytes that are drawn after it.
+//! Candidates of bytes: each is observed on a copy of the challenger, and the bytes drawn after it decide whether it
+//! passes.
 ghost use Rattle.std.specs.Prelude.{◌≡◌, ◌<◌, ◌^◌, ℕ, List, Bool, Some, IfOk, IfErr};
 ghost use Rattle.p3_challenger_core.specs.{Observation.in_slice, Reading.{IsByte, IsPrefixCodeOn}};
 ghost use Rattle.p3_challenger_core.specs.Sampling.{in_row, RefusesDraw};
@@ -8,8 +9,7 @@ ghost use Rattle.p3_grinding.specs.Checks.{byte_check, Finds, MayRunOut};
 use crate::CanCopy;
 use p3_challenger_core::{CanObserve, CanSample, ChallengerError, sample_array};
 
-/// Candidates of a search, each of which is a string of `W` bytes, and which of the strings of `S` bytes that may be
-/// drawn after one it is to pass with.
+/// The candidates of a search, each encoded as `W` bytes, and a test of the `S` bytes that are drawn after a candidate.
 ///
 /// `W` and `S` are below 2^63. Not in the Rust crate, where the two members are closures.
 pub trait ByteCandidates<const W: usize, const S: usize> {
@@ -19,11 +19,11 @@ pub trait ByteCandidates<const W: usize, const S: usize> {
     // Whether so many drawn bytes let a candidate pass.
     ghost accepted: { Self → List ℕ → Bool };
 
-    /// The bytes of a candidate.
+    /// Returns the bytes of a candidate.
     fn encode(&self, candidate: u64) -> [u8; W]
         ensures { result ≡ encoded self.now candidate };
 
-    /// Whether a candidate passes after which these bytes are drawn.
+    /// Returns whether a candidate passes if these bytes are drawn after it.
     fn accepts(&self, drawn: &[u8; S]) -> bool
         ensures { result ≡ accepted self.now drawn.now };
 
@@ -33,18 +33,17 @@ pub trait ByteCandidates<const W: usize, const S: usize> {
     ghost drawn_fit: { S < 2 ^ 63 };
 }
 
-/// A challenger of bytes that candidates are tried on, each of which feeds `W` bytes, and is tested by the next `S`
-/// bytes that are drawn.
+/// A challenger of bytes that searches candidates: each feeds `W` bytes, and the next `S` bytes drawn are tested.
 ///
-/// The Rust crate's `ByteGrindingChallenger`, where `W` and `S` are parameters of `find_witness`.
+/// Corresponds to the Rust crate's `ByteGrindingChallenger`, where `W` and `S` are parameters of `find_witness`.
 pub trait ByteGrindingChallenger<const W: usize, const S: usize>: CanCopy
     + CanObserve<u8>
     + CanSample<u8> {
-    /// The least candidate below `num_candidates` that passes, or `None` where none does. Nothing changes.
+    /// Returns the least candidate below `num_candidates` that passes, or `None` where none does. Nothing changes.
     ///
-    /// A candidate passes where the `S` bytes are accepted that are drawn once its `W` bytes were observed as one
-    /// slice. One whose draws meet a limit does not. The one error is [`ChallengerError::OutOfMemory`]. The Rust
-    /// crate answers any candidate that passes.
+    /// A candidate passes where the `S` bytes drawn after its `W` bytes, observed as one slice, are accepted. A
+    /// candidate whose draws meet a limit does not pass. The one error is [`ChallengerError::OutOfMemory`]. The Rust
+    /// crate returns any candidate that passes.
     fn find_witness<K: ByteCandidates<W, S>>(
         &self,
         num_candidates: u64,
@@ -65,8 +64,9 @@ pub trait ByteGrindingChallenger<const W: usize, const S: usize>: CanCopy
     ghost bytes_prefix_free: { IsPrefixCodeOn IsByte Self.CanObserve.observation.symbols };
 }
 
-/// The least candidate below `num_candidates` that passes, or `None` where none does: each is tried in turn on one copy
-/// of the challenger. It is what [`ByteGrindingChallenger::find_witness`] does where a challenger has nothing faster.
+/// Returns the least candidate below `num_candidates` that passes, or `None` where none does. Each is tried in turn on
+/// one copy of the challenger. A challenger without a faster search implements [`ByteGrindingChallenger::find_witness`]
+/// so.
 ///
 /// The one error is [`ChallengerError::OutOfMemory`]. Not in the Rust crate.
 pub fn find_witness_plainly<

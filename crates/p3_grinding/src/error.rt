@@ -1,4 +1,4 @@
-//! Why a draw of uniform bits is refused.
+//! The errors of draws of uniform bits.
 ghost use Rattle.std.specs.Prelude.{◌≡◌};
 ghost use Rattle.p3_field_core.specs.Equality.{IsExact};
 ghost use Rattle.p3_grinding.specs.declared.error.UniformBitsError.TheVariants.{Challenger};
@@ -6,9 +6,9 @@ ghost use Rattle.p3_grinding.specs.declared.error.UniformBitsError.TheVariants.{
 use p3_challenger_core::ChallengerError;
 use thiserror::Error;
 
-/// A drawn value was rejected, and drawing another one in its place was not allowed.
+/// A drawn value was rejected, and another draw in its place was not allowed.
 ///
-/// The Rust crate's `ResamplingError`, whose fields nobody can read there.
+/// The Rust crate's `ResamplingError` has fields that nobody can read.
 #[derive(Clone, Copy, Debug, PartialEq, Eq, Error)]
 #[error("sampled value {value} is not below rejection bound {m}, but resampling is disabled")]
 pub struct ResamplingError {
@@ -17,31 +17,31 @@ pub struct ResamplingError {
 }
 
 impl ResamplingError {
-    /// That a value was drawn, a canonical number, which is not below the bound `m`. Not in the Rust crate.
+    /// Returns the error for a drawn value, a canonical number, that is not below the bound `m`. Not in the Rust crate.
     ///
-    /// No condition is asked of the two numbers: that a draw answers this error only with a value that is not below its
-    /// bound is a law of [`CanSampleUniformBits`](crate::CanSampleUniformBits).
+    /// The two numbers have no condition. A law of [`CanSampleUniformBits`](crate::CanSampleUniformBits) says that a
+    /// draw returns this error only with a value that is not below its bound.
     pub fn new(value: u64, m: u64) -> Self
         ensures { result ≡ record { value = value; m = m } }
     {
         ResamplingError { value, m }
     }
 
-    /// The value that was drawn: a canonical number, at or above the bound.
+    /// Returns the drawn value: a canonical number, at or above the bound.
     pub fn value(&self) -> u64
         ensures { result ≡ self.now.value }
     {
         self.value
     }
 
-    /// The bound that values had to be below.
+    /// Returns the bound that values had to be below.
     pub fn m(&self) -> u64
         ensures { result ≡ self.now.m }
     {
         self.m
     }
 
-    /// Two errors compare equal exactly where they are one.
+    /// Two errors compare equal exactly where they are the same.
     ///
     /// A law: the body is empty, and a caller cites the clause.
     pub fn compared_exactly()
@@ -49,22 +49,22 @@ impl ResamplingError {
     {}
 }
 
-/// Why a draw of uniform bits was refused.
+/// Says why a draw of uniform bits was refused.
 ///
-/// Not in the Rust crate, where the one error is a [`ResamplingError`].
+/// Not in the Rust crate, where the only error is a [`ResamplingError`].
 #[derive(Clone, Copy, Debug, PartialEq, Eq, Error)]
 pub enum UniformBitsError {
-    /// A drawn value was rejected, and another one was not to be drawn in its place. It and those before it are
+    /// A drawn value was rejected, and another draw in its place was not allowed. The value and those before it are
     /// consumed.
     #[error(transparent)]
     Resampling(ResamplingError),
-    /// The challenger refused a draw. It stands as that draw leaves it.
+    /// The challenger refused a draw, and is left as that draw leaves it.
     #[error(transparent)]
     Challenger(ChallengerError),
 }
 
 impl UniformBitsError {
-    /// Two errors compare equal exactly where they are one.
+    /// Two errors compare equal exactly where they are the same.
     ///
     /// A law: the body is empty, and a caller cites the clause.
     pub fn compared_exactly()

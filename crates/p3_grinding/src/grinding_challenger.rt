@@ -1,4 +1,4 @@
-//! Proof of work: a witness passes where, after it is observed, so many drawn bits are 0.
+//! Proof of work: a witness passes where the bits drawn after its observation are 0.
 //!
 //! ```text
 //! prover    grind(bits)             ->  the least witness that passes; the challenger is as its check leaves it
@@ -13,21 +13,21 @@ use crate::search::check_plainly;
 use p3_challenger_core::{CanObserve, CanSampleBits, ChallengerError};
 use p3_field_core::PrimeField64;
 
-/// A challenger that proofs of work are made on: a witness is searched for, such that bits drawn after it are 0.
+/// A challenger for proofs of work: it searches for a witness such that the bits drawn after it are 0.
 ///
-/// The Rust crate's `GrindingChallenger`.
+/// Corresponds to the Rust crate's `GrindingChallenger`.
 pub trait GrindingChallenger: BeforeWitness + CanObserve<Self::Witness> + CanSampleBits<usize> {
-    /// What is searched for.
+    /// The type of the witnesses.
     type Witness: PrimeField64;
 
     // Where a search may be refused for memory.
     ghost may_run_out: { Self.State → Type 0 };
 
-    /// The least witness that passes a check of `bits` bits, at most [`max_bits`](CanSampleBits::max_bits). The
+    /// Returns the least witness that passes a check of `bits` bits, at most [`max_bits`](CanSampleBits::max_bits). The
     /// challenger is left as that check leaves it.
     ///
     /// The errors are [`ChallengerError::NoWitness`] where none passes, and [`ChallengerError::OutOfMemory`]. After
-    /// either the challenger is as it was. With 0 bits there is neither. The Rust crate answers any witness that
+    /// either the challenger is as it was. With 0 bits there is neither. The Rust crate returns any witness that
     /// passes, and ends the process where none does.
     fn grind(&mut self, bits: usize) -> Result<Self::Witness, ChallengerError>
         requires { bits ≤ Self.most_bits }
@@ -36,12 +36,12 @@ pub trait GrindingChallenger: BeforeWitness + CanObserve<Self::Witness> + CanSam
             (Self.state self.old) result (Self.state self.new) }
         ensures free { bits ≡ 0 → IsOk result };
 
-    /// Whether a witness passes: what [`draw_before_witness`](BeforeWitness::draw_before_witness) draws is drawn, the witness is
-    /// observed, and the next `bits` bits, at most [`max_bits`](CanSampleBits::max_bits), are all 0. With 0 bits each
-    /// witness passes, and nothing is touched.
+    /// Returns whether a witness passes. The check calls [`draw_before_witness`](BeforeWitness::draw_before_witness)
+    /// and observes the witness. The witness passes if the next `bits` bits, at most
+    /// [`max_bits`](CanSampleBits::max_bits), are all 0. With 0 bits each witness passes, and nothing changes.
     ///
-    /// The errors are those of `draw_before_witness`, [`CanObserve::observe`] and [`CanSampleBits::sample_bits`]. What was
-    /// drawn and observed before the refused call stays so.
+    /// The errors are those of `draw_before_witness`, [`CanObserve::observe`] and [`CanSampleBits::sample_bits`]. Draws
+    /// and observations before the refused call stay.
     fn check_witness(
         &mut self,
         bits: usize,

@@ -1,5 +1,4 @@
-//! Uniform bits and proof of work: what a challenger adds that draws bits without bias, and that witnesses are
-//! searched for and checked on.
+//! Uniform bits and proof of work: draws of bits without bias, and the search for witnesses and their checks.
 #![tactic(auto)]
 
 mod before_witness;

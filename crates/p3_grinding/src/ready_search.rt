@@ -1,4 +1,4 @@
-//! Searches for the least witness by challengers that have a search of their own, for when they are ready for a witness.
+//! Searches for the least witness, by challengers with a faster search from a state that is ready for a witness.
 ghost use Rattle.std.specs.Prelude.{◌≡◌, ◌≤◌, IfOk, IfErr, IsOk};
 ghost use Rattle.p3_grinding.specs.Checks.{bits_check, ready_check, IsLeast, RefusesTrials, TriesOrRefuses};
 
@@ -8,15 +8,15 @@ use p3_challenger_core::{CanObserve, CanSampleBits, ChallengerError};
 use p3_field_core::PrimeField64;
 use std::mem;
 
-/// A challenger that has a search of its own for the least witness, once it is ready for one.
+/// A challenger with a search of its own for the least witness, from a state that is ready for one.
 ///
 /// Not in the Rust crate.
 pub trait ReadySearch<W: PrimeField64>: CanObserve<W> + CanSampleBits<usize> + CanCopy {
-    /// The least witness after which the `bits` bits that are drawn are 0. The challenger is left as it is
-    /// once the witness was observed and these bits were drawn.
+    /// Returns the least witness after which the `bits` drawn bits are 0. The challenger is left after the observation
+    /// of the witness and the draw of these bits.
     ///
-    /// The errors are [`ChallengerError::NoWitness`] where none passes, and
-    /// [`ChallengerError::OutOfMemory`]. What the challenger is after one is not promised.
+    /// The errors are [`ChallengerError::NoWitness`] where none passes, and [`ChallengerError::OutOfMemory`]. After an
+    /// error the state of the challenger is unspecified.
     ///
     /// `bits` is at most `max_bits`.
     fn least_when_ready(&mut self, bits: usize) -> Result<W, ChallengerError>
@@ -30,8 +30,8 @@ pub trait ReadySearch<W: PrimeField64>: CanObserve<W> + CanSampleBits<usize> + C
             (Self.state self.old) (Self.state self.old)) };
 }
 
-/// The least witness that passes a check of `bits` bits, by the challenger's own search. The challenger is
-/// left as that check leaves it. All else is as for [`least_witness`](crate::least_witness).
+/// Returns the least witness that passes a check of `bits` bits, by the challenger's own search. The challenger is left
+/// as that check leaves it. Everything else is as for [`least_witness`](crate::least_witness).
 ///
 /// `bits` is at most `max_bits`. Not in the Rust crate.
 pub fn least_witness_by_own_search<W: PrimeField64, C: BeforeWitness + ReadySearch<W>>(

@@ -1,6 +1,6 @@
-//! Searches for the least witness that passes. What a check draws before its witness is drawn once, on a copy; each
-//! candidate in order is tested on a copy of that one, which is set back for the next. The copy that passed takes the
-//! challenger's place.
+//! Searches for the least witness that passes. One copy of the challenger makes the draws before the witness. A
+//! second copy, reset to the first for each candidate, tests the candidates in order. The copy that passed replaces
+//! the challenger.
 ghost use Rattle.std.specs.Prelude.{◌≡◌, ◌≤◌, Some, OnOk, IfOk, IfErr, IsOk};
 ghost use Rattle.p3_grinding.specs.Checks.{bits_check, ready_check, RefusesReady, TriesOrRefuses};
 ghost use Rattle.p3_challenger_core.specs.Sampling.{DrawsOrRefuses};
@@ -10,11 +10,11 @@ use p3_challenger_core::{CanObserve, CanSampleBits, ChallengerError};
 use p3_field_core::PrimeField64;
 use std::mem;
 
-/// The least witness that passes a check of `bits` bits. The challenger is left as that check leaves it.
+/// Returns the least witness that passes a check of `bits` bits. The challenger is left as that check leaves it.
 ///
 /// A witness whose check meets a draw limit does not pass. The errors are [`ChallengerError::NoWitness`] where none
-/// passes, and [`ChallengerError::OutOfMemory`]. After either the challenger is as it was. With 0 bits there is none:
-/// the witness 0 passes.
+/// passes, and [`ChallengerError::OutOfMemory`]. After either the challenger is as it was. With 0 bits there is no
+/// error: the witness 0 passes.
 ///
 /// `bits` is at most `max_bits`. Not in the Rust crate.
 pub fn least_witness<
@@ -36,9 +36,9 @@ pub fn least_witness<
     Ok(witness)
 }
 
-/// An equal challenger, from which was drawn what a check draws before its witness.
+/// Returns an equal challenger that has made the draws of a check before its witness.
 ///
-/// The errors are [`ChallengerError::NoWitness`] where that meets a draw limit, so that no witness passes, and
+/// The errors are [`ChallengerError::NoWitness`] where these draws meet a limit, so that no witness passes, and
 /// [`ChallengerError::OutOfMemory`].
 pub(crate) fn prepared_copy<C: BeforeWitness + CanCopy>(
     challenger: &C,
@@ -81,7 +81,7 @@ fn least_prepared<W: PrimeField64, C: CanObserve<W> + CanSampleBits<usize> + Can
     Err(ChallengerError::NoWitness)
 }
 
-/// Whether a witness passes a check of `bits` bits.
+/// Returns whether a witness passes a check of `bits` bits.
 ///
 /// The errors are those of [`CanObserve::observe`] and [`CanSampleBits::sample_bits`].
 pub(crate) fn check_plainly<

@@ -1,25 +1,26 @@
-//! Draws of uniform bits. A drawn value at or above a multiple of 2^bits is rejected: then another one is drawn, or the
-//! draw is refused.
+//! Draws of uniform bits. A drawn value at or above a multiple of 2^bits is rejected, and either replaced by another
+//! draw or reported as an error.
 ghost use Rattle.std.specs.Prelude.{◌≡◌, ◌^◌, ◌<◌, ◌≤◌, ℕ, Bool, Some};
 ghost use Rattle.p3_grinding.specs.UniformDraws.{UniformDraw, IsUniformDraw, DrawsUniformly};
 
 use crate::UniformBitsError;
 use p3_challenger_core::CanSampleBits;
 
-/// A challenger that uniform bits are drawn from: it rejects drawn values so that what is left has as many for each
-/// value of the bits. `F` is the field of the challenger. This trait does not say that no value of the bits is
-/// favoured; each challenger says that of its own draws.
+/// A challenger that draws uniform bits: it rejects drawn values so that the remaining ones give each value of the bits
+/// equally often. `F` is the field of the challenger. This trait does not promise that no value of the bits is
+/// favoured; each challenger promises that for its own draws.
 ///
-/// The Rust crate's `CanSampleUniformBits`.
+/// Corresponds to the Rust crate's `CanSampleUniformBits`.
 pub trait CanSampleUniformBits<F>: CanSampleBits<usize> {
     // A draw of so many bits; whether another value may be drawn in the place of a rejected one.
     ghost uniform: { Bool → ℕ → UniformDraw Self.State };
 
     /// Draws a number of `bits` bits, at most [`max_bits`](CanSampleBits::max_bits). `resample`, a const parameter in
-    /// the Rust crate, says whether another value is drawn in the place of one that is rejected.
+    /// the Rust crate, says whether a rejected value is replaced by another draw.
     ///
-    /// The errors are those of [`CanSample::sample`](p3_challenger_core::CanSample::sample), and, where `resample` is
-    /// false alone, [`UniformBitsError::Resampling`]: the rejected value and those before it are consumed.
+    /// The errors are those of [`CanSample::sample`](p3_challenger_core::CanSample::sample), and
+    /// [`UniformBitsError::Resampling`] if `resample` is false. After the latter the rejected value and those before it
+    /// are consumed.
     fn sample_uniform_bits(
         &mut self,
         bits: usize,

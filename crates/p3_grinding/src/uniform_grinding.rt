@@ -7,15 +7,15 @@ use crate::uniform_search::check_uniformly;
 use crate::{CanSampleUniformBits, GrindingChallenger};
 use p3_challenger_core::ChallengerError;
 
-/// A challenger that proofs of work are made on with bits that have no bias.
+/// A challenger for proofs of work by bits without bias.
 ///
-/// With 0 bits each witness passes, and nothing is touched.
+/// With 0 bits each witness passes, and nothing changes.
 ///
-/// The Rust crate's `UniformGrindingChallenger`.
+/// Corresponds to the Rust crate's `UniformGrindingChallenger`.
 pub trait UniformGrindingChallenger: GrindingChallenger + CanSampleUniformBits<Self::Witness> {
-    /// The least witness that passes [`check_witness_uniform`](UniformGrindingChallenger::check_witness_uniform), with
-    /// `bits` at most `max_bits`. The challenger is left as that check leaves it. A witness whose check meets a draw
-    /// limit does not pass.
+    /// Returns the least witness that passes
+    /// [`check_witness_uniform`](UniformGrindingChallenger::check_witness_uniform), with `bits` at most `max_bits`. The
+    /// challenger is left as that check leaves it. A witness whose check meets a draw limit does not pass.
     ///
     /// The errors are [`ChallengerError::NoWitness`] where none passes, and [`ChallengerError::OutOfMemory`]. After
     /// either the challenger is as it was. With 0 bits there is neither.
@@ -26,7 +26,7 @@ pub trait UniformGrindingChallenger: GrindingChallenger + CanSampleUniformBits<S
             (Self.state self.old) result (Self.state self.new) }
         ensures free { bits ≡ 0 → IsOk result };
 
-    /// The least witness that passes
+    /// Returns the least witness that passes
     /// [`check_witness_uniform_may_error`](UniformGrindingChallenger::check_witness_uniform_may_error), with `bits` at
     /// most `max_bits`. The challenger is left as that check leaves it.
     ///
@@ -38,12 +38,13 @@ pub trait UniformGrindingChallenger: GrindingChallenger + CanSampleUniformBits<S
             (Self.state self.old) result (Self.state self.new) }
         ensures free { bits ≡ 0 → IsOk result };
 
-    /// Whether a witness passes: what [`draw_before_witness`](crate::BeforeWitness::draw_before_witness) draws is drawn, the
-    /// witness is observed, and the next `bits` uniform bits, at most `max_bits`, are all 0. Another value is drawn
-    /// in the place of one that is rejected.
+    /// Returns whether a witness passes. The check calls
+    /// [`draw_before_witness`](crate::BeforeWitness::draw_before_witness) and observes the witness. The witness passes
+    /// if the next `bits` uniform bits, at most `max_bits`, are all 0. A rejected value is replaced by another draw.
     ///
-    /// The errors are those of `draw_before_witness`, of [`CanObserve::observe`](p3_challenger_core::CanObserve::observe)
-    /// and of a draw. What was drawn and observed before the refused call stays so.
+    /// The errors are those of `draw_before_witness`, of
+    /// [`CanObserve::observe`](p3_challenger_core::CanObserve::observe) and of a draw. Draws and observations before
+    /// the refused call stay.
     fn check_witness_uniform(
         &mut self,
         bits: usize,
@@ -57,7 +58,8 @@ pub trait UniformGrindingChallenger: GrindingChallenger + CanSampleUniformBits<S
         check_uniformly(self, bits, true, witness)
     }
 
-    /// The same, but a witness after which a value is rejected does not pass: no other one is drawn.
+    /// Returns whether a witness passes, as `check_witness_uniform` does, except that a rejected value is not replaced:
+    /// the witness does not pass.
     ///
     /// The errors are those of [`check_witness_uniform`](UniformGrindingChallenger::check_witness_uniform).
     fn check_witness_uniform_may_error(

@@ -1,4 +1,4 @@
-//! The search for the least witness by uniform bits: as `search` has it for plain ones.
+//! The search for the least witness by uniform bits, as in `search` for plain ones.
 ghost use Rattle.std.specs.Prelude.{◌≡◌, ◌≤◌, IsOk};
 ghost use Rattle.p3_grinding.specs.Checks.{zero_and_uniform, uniform_check, ready_uniform_check, TriesOrRefuses};
 ghost use Rattle.p3_challenger_core.specs.Sampling.{DrawsOrRefuses};
@@ -9,8 +9,8 @@ use p3_challenger_core::{CanObserve, ChallengerError};
 use p3_field_core::PrimeField64;
 use std::mem;
 
-/// The least witness that passes a check of `bits` uniform bits, where `resample` says whether another value is drawn
-/// in the place of one that is rejected. The challenger is left as that check leaves it.
+/// Returns the least witness that passes a check of `bits` uniform bits, where `resample` says whether a rejected
+/// value is replaced by another draw. The challenger is left as that check leaves it.
 ///
 /// A witness whose check meets a draw limit does not pass. The errors are those of [`least_witness`].
 ///
@@ -61,7 +61,8 @@ fn least_prepared<W: PrimeField64, C: CanObserve<W> + CanSampleUniformBits<W> + 
     Err(ChallengerError::NoWitness)
 }
 
-/// Whether a witness passes a check of `bits` uniform bits, by what is done where a value is rejected.
+/// Returns whether a witness passes a check of `bits` uniform bits; `resample` says whether a rejected value is
+/// replaced.
 ///
 /// The errors are those of [`CanObserve::observe`] and of a draw.
 pub(crate) fn check_uniformly<

@@ -2,55 +2,55 @@
 use Rattle.std.specs.Prelude.{ℕ, ◌==◌, ◌-◌, List, [], ◌∷◌, ◌++◌, take, slice_index_or, if◌then◌else◌}
 use Rattle.p3_challenger_core.specs.Segments.{Call, observe, observe_empty_array, draw, Run, stays, ByCalls}
 
--- a hash function of lists: the digest of a list, how many places each digest has, and a value that stands for
--- a place that a list does not have, which no draw takes
+-- A hash function of lists: the digest of a list, the number of places of each digest, and a dummy for a
+-- missing place. No draw takes the dummy.
 pub record HashFunction (T : Type 0) : Type 0 where
   pub digest : List T → List T
   pub out_len : ℕ
   pub filler : T
 
--- what a hash challenger has: what the next flush hashes, and how many outputs of the last flush are
--- left, which are the first places of its digest
+-- The state of a hash challenger: the input of the next hash, and how many outputs of the last flush are left.
+-- These are the first places of its digest.
 pub record HashSponge (T : Type 0) : Type 0 where
   pub pending : List T
   pub outputs_left : ℕ
 
--- a challenger that has pending values and no output
+-- a challenger with these pending values and without outputs
 abbrev pub with_pending : {T : Type 0} → List T → HashSponge T
 with_pending values = record { pending = values; outputs_left = 0 }
 
--- what a list feeds: it is added to what is pending, and the outputs are dropped; nothing changes
--- where there is nothing to feed
+-- feeding a list: it is appended to the pending values, and the outputs are dropped; an empty list changes
+-- nothing
 abbrev pub fed : {T : Type 0} → HashSponge T → List T → HashSponge T
 fed s [] = s
 fed s (x ∷ xs) = with_pending (s.pending ++ x ∷ xs)
 
--- after one value
+-- the state after an observed value
 abbrev pub observed : {T : Type 0} → HashSponge T → T → HashSponge T
 observed s x = fed s (x ∷ [])
 
--- after an array: its values are added to what is pending, and the outputs are dropped, by an array
--- of no values too
+-- the state after an observed array: its values are appended to the pending ones, and the outputs are dropped,
+-- even by an empty array
 abbrev pub array_observed : {T : Type 0} → HashSponge T → List T → HashSponge T
 array_observed s xs = with_pending (s.pending ++ xs)
 
--- after a flush: the digest of all that was pending is pending, and each of its places is left
+-- the state after a flush: the digest of the pending values is pending, and each of its places is left
 abbrev pub flushed : {T : Type 0} → HashFunction T → HashSponge T → HashSponge T
 flushed h s = record { pending = h.digest s.pending; outputs_left = h.out_len }
 
--- where a draw takes its output from: with none left it flushes first
+-- the state from which a draw takes its output: a flush precedes it if no output is left
 abbrev pub ready : {T : Type 0} → HashFunction T → HashSponge T → HashSponge T
 ready h s = if s.outputs_left == 0 then flushed h s else s
 
--- the outputs left, the last of which is drawn next
+-- the outputs left; the last one is drawn next
 abbrev pub outputs : {T : Type 0} → HashSponge T → List T
 outputs s = take s.outputs_left s.pending
 
--- what a draw gives: the last output left
+-- the result of a draw: the last output left
 abbrev pub last_output : {T : Type 0} → HashFunction T → HashSponge T → T
 last_output h s = slice_index_or s.pending (s.outputs_left - 1) h.filler
 
--- without that output
+-- the state without that output
 abbrev pub one_taken : {T : Type 0} → HashSponge T → HashSponge T
 one_taken s = record s { outputs_left = s.outputs_left - 1 }
 
@@ -60,17 +60,17 @@ sampled h s = last_output h (ready h s)
 abbrev pub after_sampled : {T : Type 0} → HashFunction T → HashSponge T → HashSponge T
 after_sampled h s = one_taken (ready h s)
 
--- the digest: one more hash of all that is pending, whatever outputs are left
+-- the digest: one more hash of the pending values, whatever outputs are left
 abbrev pub digest : {T : Type 0} → HashFunction T → HashSponge T → List T
 digest h s = h.digest s.pending
 
 -- ---- the queries to the hash function
 
--- a draw that finds no output queries all that is pending
+-- a draw without outputs queries the pending values
 abbrev pub queries_by_draw : {T : Type 0} → HashSponge T → List (List T)
 queries_by_draw s = if s.outputs_left == 0 then s.pending ∷ [] else []
 
--- so does a digest, whatever outputs are left
+-- a digest queries the pending values, whatever outputs are left
 abbrev pub queries_by_digest : {T : Type 0} → HashSponge T → List (List T)
 queries_by_digest s = s.pending ∷ []
 

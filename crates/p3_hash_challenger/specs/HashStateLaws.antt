@@ -10,7 +10,7 @@ use Rattle.std.{proofs.Common.{ap, subst, ◌∙◌, append_assoc, append-nil}, 
 use Rattle.p3_challenger_core.specs.{Sponge.IsNonEmpty, Observation.{LeavesInCalls, observed_all}}
 use Rattle.p3_hash_challenger.specs.{HashCalls.{HashFunction, with_pending}, HashState.observation_of_parts}
 
--- feeding a list and then another is feeding both
+-- feeding two lists in turn feeds their concatenation
 pub fed-append : {T H : Type 0} (s : HashState T H) (xs ys : List T) → fed (fed s xs) ys ≡ fed s (xs ++ ys)
 fed-append s [] ys = refl
 fed-append s (x ∷ xs) [] =
@@ -18,30 +18,30 @@ fed-append s (x ∷ xs) [] =
 fed-append s (x ∷ xs) (y ∷ ys) =
     ap (λ p. record { sponge = with_pending p; hasher = s.hasher }) (append_assoc s.sponge.pending (x ∷ xs) (y ∷ ys))
 
--- values observed in order are fed
+-- values observed in order are fed as a list
 pub observed_all-fed : {T H : Type 0} (s : HashState T H) (xs : List T) → observed_all observed s xs ≡ fed s xs
 observed_all-fed s [] = refl
 observed_all-fed s (x ∷ xs) = observed_all-fed (observed s x) xs ∙ fed-append s (x ∷ []) xs
 
--- an array that is not empty is fed
+-- a non-empty array is fed as a list
 pub array_observed-fed : {T H : Type 0} (s : HashState T H) (xs : List T) → IsNonEmpty xs
     → array_observed s xs ≡ fed s xs
 array_observed-fed s [] h = absurd h
 array_observed-fed s (x ∷ xs) h = refl
 
--- a list that is not empty is added to what is pending
+-- a non-empty list is appended to the pending values
 pub array_observed-is_fed : {T H : Type 0} (s : HashState T H) (xs : List T) → (length xs == 0) ≡ false
     → array_observed s xs ≡ fed s xs
 array_observed-is_fed s [] h = cc
 array_observed-is_fed s (x ∷ xs) h = refl
 
--- parts that are fed in order are fed as one list
+-- parts fed in order are fed as one list
 pub all_fed : {T H X : Type 0} (parts : X → List T) (s : HashState T H) (xs : List X)
     → observed_all (λ t x. fed t (parts x)) s xs ≡ fed s (flat_map parts xs)
 all_fed parts s [] = refl
 all_fed parts s (x ∷ xs) = all_fed parts (fed s (parts x)) xs ∙ fed-append s (parts x) (flat_map parts xs)
 
--- ---- what is observed is what is fed, and what a refusal leaves
+-- ---- observations feed their symbols, and what a refusal leaves
 
 -- a refusal that changes nothing has fed nothing
 module _ {T H : Type 0} where
@@ -91,7 +91,7 @@ lists-observed values =
 
 -- a value of parts that are fed one after another
 module _ {T H X U : Type 0} (parts : X → List U) (items : U → List T) where
-  -- where a part is refused, a front of what they feed was fed
+  -- where a part is refused, a prefix of the symbols was fed
   beginning-fed : (s : HashState T H) (ps : List U) (t : HashState T H) → LeavesParts items s ps t
       → (n : ℕ) × (t ≡ fed s (take n (flat_map items ps)))
   beginning-fed s [] t h = absurd h
@@ -105,7 +105,7 @@ module _ {T H X U : Type 0} (parts : X → List U) (items : U → List T) where
   parts-observed =
       exact-observation fed (λ _. refl) fed-append (observation_of_parts parts items) (λ _ _. refl) (λ s x t h. beginning-fed s (parts x) t h)
 
-  -- the parts of the first value, or of those after it
+  -- a refusal is among the parts of the first value, or among the later parts
   beginning-split : (s : HashState T H) (ps qs : List U) (t : HashState T H) → LeavesParts items s (ps ++ qs) t
       → LeavesParts items s ps t ⊎ LeavesParts items (observed_all (λ u part. fed u (items part)) s ps) qs t
   beginning-split s [] qs t h = inr h
@@ -128,7 +128,7 @@ module _ {T H X U : Type 0} (parts : X → List U) (items : U → List T) where
 
 -- ---- draws
 
--- each draw is the smallest there is
+-- each draw is a smallest draw
 pub values-sampled : {T H : Type 0} (function : H → HashFunction T) →
     IsSampling (after_sampled function) (unrefused_draw (λ s. Some (sampled function s)) (after_sampled function))
 values-sampled function =

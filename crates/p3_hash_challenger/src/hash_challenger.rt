@@ -1,4 +1,4 @@
-//! The challenger made of a hash function, and what it does with values and arrays.
+//! The challenger over a hash function, with its observations of values and arrays.
 //!
 //! ```text
 //! observe ->  pending values  <-------------------+
@@ -10,7 +10,7 @@
 //! sample  <-  outputs: the places of the digest, the last of them first
 //! ```
 //!
-//! An observe drops the outputs that are left.
+//! An observation drops the outputs that are left.
 ghost use Rattle.std.specs.Prelude.{◌≡◌, ◌<◌, List, Some, OnOk, OnErr, IfOk, IfErr, refl, []};
 ghost use Rattle.p3_challenger_core.specs.Segments.{Call, segments, run_segments, run_segments_to_digest};
 ghost use Rattle.p3_challenger_core.specs.{Observation.{RefusesObserve, LeavesBeginning}, Sponge.IsNonEmpty};
@@ -34,21 +34,20 @@ use p3_symmetric::CryptographicHasher;
 use std::alloc::AllocError;
 use std::marker::Model;
 
-/// A challenger made of a hash function.
+/// A challenger over a hash function.
 ///
-/// What is observed is pending until a draw finds no output left. Then all that is pending is
-/// hashed. The digest is pending in its place, so that each hash chains to the one before, and its
-/// places are the outputs, drawn from the last one backwards. An observation drops the outputs left, also
-/// one of an array of no places; whatever else feeds nothing changes nothing.
+/// Observed values are pending until a draw finds no output left. Then all pending values are hashed. The digest
+/// becomes the pending value, so that each hash chains to the one before. Its places are the outputs, drawn from the
+/// last one backwards. An observation drops the outputs left, and so does that of an empty array. Any other observation
+/// that feeds nothing changes nothing.
 ///
-/// `OUT_LEN` is how many values a digest has, and a symbol is one value. The digest at the end is one more hash of all
-/// that is pending.
+/// `OUT_LEN` is the number of values in a digest, and a symbol is one value. The final digest is one more hash of the
+/// pending values.
 ///
-/// No draw of a value is refused, and an observe only when out of memory. A refused observe of a value, an array or a
-/// digest leaves the challenger as it was; one of a cap or of a list of lists leaves the roots or the lists before the
-/// refused one fed.
+/// No draw of a value is refused, and an observation only when out of memory. A refused value, array or digest leaves
+/// the challenger as it was. A refused cap or list of lists leaves the roots or lists before the refused one fed.
 ///
-/// The Rust crate's `HashChallenger`, whose values are `Clone`.
+/// In the Rust crate's `HashChallenger` values are `Clone`.
 #[derive(Debug, Drop)]
 pub struct HashChallenger<T, H, const OUT_LEN: usize> {
     // What is pending, where `digest` is `None`; else of no meaning, and kept for its capacity.
@@ -81,13 +80,13 @@ impl<T: Copy, H: CryptographicHasher<T, [T; OUT_LEN]>, const OUT_LEN: usize> Has
     H,
     OUT_LEN,
 > {
-    /// A challenger that has the initial state pending, and no output. `OUT_LEN` is at least 1.
+    /// Returns a challenger with the initial state pending and without outputs. `OUT_LEN` is at least 1.
     ///
-    /// What it hashes tells what it observed, for those who check the hashes and not the calls. Two lists of calls that
-    /// hash the same strings, and leave the same pending, or end in a digest, observed the same values. Where they hash
-    /// equally many strings, and leave the same pending, they observed the same values too, or at one place of what
-    /// they hash stand two different strings with one digest: there values of `T` must be such that two are equal or
-    /// not, as bytes and the elements of a field are.
+    /// For those who check the hashes and not the calls, the hashed strings determine the observed values. If two lists
+    /// of calls hash the same strings, and leave the same pending values or end in a digest, they observed the same
+    /// values. If they only hash equally many strings and leave the same pending values, two cases remain. Either they
+    /// observed the same values, or two different strings at one place have one digest. The last claim is for values
+    /// with decidable equality, such as bytes and field elements.
     pub fn new(initial_state: Vec<T>, hasher: H) -> Self
         requires { 0 < OUT_LEN }
         ensures value { result
@@ -106,9 +105,9 @@ impl<T: Copy, H: CryptographicHasher<T, [T; OUT_LEN]>, const OUT_LEN: usize> Has
         }
     }
 
-    /// An equal challenger, which shares nothing with this one.
+    /// Returns an equal challenger, which shares nothing with this one.
     ///
-    /// The one error is [`ChallengerError::OutOfMemory`]. The Rust crate's `Clone`, which answers no error.
+    /// The one error is [`ChallengerError::OutOfMemory`]. The Rust crate's `Clone` returns no error.
     pub fn clone(&self) -> Result<Self, ChallengerError>
         ensures ok { IfOk result (λ c. c ≡ self.now) }
         ensures err { IfErr result (λ e. e ≡ ChallengerError.OutOfMemory) }
@@ -126,10 +125,9 @@ impl<T: Copy, H: CryptographicHasher<T, [T; OUT_LEN]>, const OUT_LEN: usize> Has
         })
     }
 
-    /// The segments of calls, whole: from this challenger on, every list of calls gives the answers, makes
-    /// the queries to the hash function, and leaves the challenger, that its segments name; and
-    /// so do calls that end in a digest. No string is left out: a hash function that gives the same on
-    /// those that are queried makes the calls do the same.
+    /// Segments determine all calls. From this challenger on, every list of calls has the results, the queries to the
+    /// hash function and the final challenger that its segments name. So have calls that end in a digest. The queries
+    /// are complete: another hash function with the same digests of the queried strings gives the same calls.
     ///
     /// A law: the body does nothing, and a caller cites the clauses.
     pub fn follows_segments(&self)
@@ -147,8 +145,8 @@ impl<T: Copy, H: CryptographicHasher<T, [T; OUT_LEN]>, const OUT_LEN: usize> Has
         let _ = &self.outputs_left;
     }
 
-    /// Each draw gives an output that is there, a place of a digest: whatever stood for a place that a list does
-    /// not have, every list of calls would give the same answers and leave the same challenger.
+    /// Each draw gives a place that its digest has. Whatever the dummy for a missing place is, every list of calls has
+    /// the same results and leaves the same challenger.
     ///
     /// A law: the body does nothing, and a caller cites the clause.
     pub fn draws_are_outputs(&self)
@@ -165,7 +163,7 @@ impl<T: Copy, H: CryptographicHasher<T, [T; OUT_LEN]>, const OUT_LEN: usize> Has
         ensures { IsUnrefusedDraw ⟦<Self as CanSample<T>>⟧.sampling }
     {}
 
-    /// What the next hash takes: the digest of the last one, and what was observed since. Not in the Rust crate.
+    /// Returns the input of the next hash: the last digest, and the values observed since. Not in the Rust crate.
     pub fn input(&self) -> &[T]
         ensures { result.now ≡ self.now.sponge.pending }
     {
@@ -175,7 +173,7 @@ impl<T: Copy, H: CryptographicHasher<T, [T; OUT_LEN]>, const OUT_LEN: usize> Has
         }
     }
 
-    /// The outputs that are left. The last one is drawn next. Not in the Rust crate.
+    /// Returns the outputs that are left. The last one is drawn next. Not in the Rust crate.
     pub fn output(&self) -> &[T]
         ensures { result.now ≡ outputs self.now.sponge }
     {
@@ -185,7 +183,7 @@ impl<T: Copy, H: CryptographicHasher<T, [T; OUT_LEN]>, const OUT_LEN: usize> Has
         }
     }
 
-    /// The hasher. Not in the Rust crate.
+    /// Returns the hasher. Not in the Rust crate.
     pub fn hasher(&self) -> &H
         ensures { result.now ≡ self.now.hasher }
     {

@@ -1,6 +1,6 @@
-//! The challenger made of a hash function. It draws values of that function.
+//! The challenger over a hash function. It draws values of the function's digests.
 //!
-//! What is called a law is a function without effect whose contract a caller cites. The Rust crate has none.
+//! A law is a function without effect whose contract a caller cites. The Rust crate has none.
 #![tactic(auto)]
 
 mod hash_challenger;

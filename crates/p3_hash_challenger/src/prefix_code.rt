@@ -1,4 +1,4 @@
-//! What a hash challenger feeds is a prefix code: the premises of the laws on symbols.
+//! A hash challenger feeds a prefix code: the premises of the laws on symbols.
 ghost use Rattle.std.specs.Prelude.{◌≡◌, List, length, ◌++◌};
 ghost use Rattle.p3_challenger_core.specs.Reading.{IsPrefixCode, IsPrefixCodeOn};
 ghost use Rattle.p3_symmetric.specs.{declared.hash.Hash.Hash, Digests.values_of};
@@ -19,8 +19,7 @@ pub fn hash_values_are_prefix_code<
     ensures { IsPrefixCode ⟦<HashChallenger<T, H, OUT_LEN> as CanObserve<T>>⟧.observation.symbols }
 {}
 
-/// Arrays of `N` values and digests of `N` values feed symbols that are a prefix code, each among themselves and both
-/// together.
+/// Arrays of `N` values feed a prefix code. So do digests of `N` values, and both kinds together.
 ///
 /// A law: the body is empty, and a caller cites the clauses.
 pub fn hash_arrays_are_prefix_code<

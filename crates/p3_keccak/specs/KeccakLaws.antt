@@ -1,4 +1,4 @@
--- A digest under Keccak-256 has 32 places, and each is a byte.
+-- A digest under Keccak-256 is a list of 32 bytes.
 use Rattle.std.{specs.Prelude.{◌≡◌, ℕ, zero, suc, ◌*◌, ◌<◌, List, [], ◌∷◌, ◌++◌, length, slice_index, refl}, proofs.Common.{lit<, arith, length-append}}
 use Rattle.std.{proofs.Math.Nat.mod-lt, specs.Int.{to_le_bytes, w64}}
 use Rattle.p3_keccak.specs.Keccak.{keccak256, lane_bytes}

@@ -1,7 +1,7 @@
 -- Digests of Keccak-256 that are widely published.
 use Rattle.std.specs.Prelude.{ℕ, List, [], ◌∷◌}
 
--- of the message without bytes
+-- the digest of the empty message
 abbrev pub digest_of_nothing : List ℕ
 digest_of_nothing =
     0xC5 ∷ 0xD2 ∷ 0x46 ∷ 0x01 ∷ 0x86 ∷ 0xF7 ∷ 0x23 ∷ 0x3C ∷
@@ -9,7 +9,7 @@ digest_of_nothing =
     0xE5 ∷ 0x00 ∷ 0xB6 ∷ 0x53 ∷ 0xCA ∷ 0x82 ∷ 0x27 ∷ 0x3B ∷
     0x7B ∷ 0xFA ∷ 0xD8 ∷ 0x04 ∷ 0x5D ∷ 0x85 ∷ 0xA4 ∷ 0x70 ∷ []
 
--- of the message `abc` in ASCII
+-- the digest of the message `abc` in ASCII
 abbrev pub digest_of_abc : List ℕ
 digest_of_abc =
     0x4E ∷ 0x03 ∷ 0x65 ∷ 0x7A ∷ 0xEA ∷ 0x45 ∷ 0xA9 ∷ 0x4F ∷

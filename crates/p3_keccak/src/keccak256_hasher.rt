@@ -5,14 +5,14 @@ ghost use Rattle.p3_keccak.specs.{Keccak.keccak256, KeccakLaws.keccak256-is_dige
 use crate::sponge::keccak256;
 use p3_symmetric::{CryptographicHasher, DigestHasher};
 
-/// Keccak-256, of bytes to 32 bytes, as Ethereum has it. It is a hash function of lists of bytes, and one that its type
-/// alone gives.
+/// Keccak-256, from bytes to 32 bytes, as Ethereum uses it. It is a hash function of lists of bytes, and a
+/// `DigestHasher`.
 ///
-/// It is `KECCAK[512]` of FIPS 202 with a digest of 256 bits, and the padding of the Keccak submission: a message ends
-/// in the byte 0x01, zeros, and a last bit. SHA3-256, whose padding begins with 0x06, gives other digests. A digest
-/// takes no memory, and there are no errors.
+/// It is `KECCAK[512]` of FIPS 202 with a digest of 256 bits. The padding is that of the Keccak submission: the byte
+/// 0x01, zeros and a final bit. SHA3-256, whose padding begins with 0x06, gives other digests. A digest takes no
+/// memory, and there are no errors.
 ///
-/// `p3-keccak`'s `Keccak256Hash`.
+/// Corresponds to `p3-keccak`'s `Keccak256Hash`.
 #[derive(Clone, Copy, Debug, PartialEq, Eq)]
 pub struct Keccak256Hasher;
 

@@ -1,4 +1,5 @@
-//! Keccak-256, the hash function of Ethereum, by which the Rust crate hashes patterns and the identities of algebras.
+//! Keccak-256, the hash function of Ethereum, with which the Rust crate hashes patterns and the identities of
+//! algebras.
 #![tactic(auto)]
 
 mod keccak256_hasher;

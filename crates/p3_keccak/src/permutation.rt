@@ -138,8 +138,8 @@ fn round(a: [u64; 25], index: usize) -> [u64; 25]
     ]
 }
 
-/// The state after Keccak-f[1600], which is 24 rounds (FIPS 202, 3.4). Two rounds make a turn of the loop: so lanes are
-/// moved from place to place half as often.
+/// Returns the state after Keccak-f[1600], which has 24 rounds (FIPS 202, 3.4). The loop makes two rounds in a turn, so
+/// that lanes are moved half as often.
 pub(crate) fn keccak_f(state: [u64; 25]) -> [u64; 25]
     ensures { result ≡ keccak_f state }
 {

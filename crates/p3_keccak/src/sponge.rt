@@ -61,7 +61,7 @@ fn squeeze(state: &[u64; 25]) -> [u8; 32]
     digest
 }
 
-/// The digest of a message under Keccak-256, 32 bytes. It takes no memory.
+/// Returns the digest of a message under Keccak-256, 32 bytes. This call takes no memory.
 pub(crate) fn keccak256(message: &[u8]) -> [u8; 32]
     ensures { result ≡ keccak256 message.now }
 {

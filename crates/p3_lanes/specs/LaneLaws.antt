@@ -1,5 +1,5 @@
--- Of numbers below an order: the element of their sum, difference or product, reduced, is that of
--- their elements.
+-- For numbers below an order, the reduced sum, difference or product of numbers gives that of their
+-- elements.
 use Rattle.std.proofs.{Common.{◌≡◌, ℕ, ◌+◌, ◌-◌, ◌*◌, ◌%◌, ◌<◌, ◌∙◌, sym, ap, ap₂}, Math.Nat.mod-mod}
 use Rattle.p3_field_core.specs.Residues.{Residues, IsResidues, sum_of, difference_of, product_of}
 use Rattle.p3_field_core.specs.ResidueLaws.{of-same, number_of-below}

@@ -1,4 +1,4 @@
-//! Elements of the field side by side in lanes.
+//! Elements of Goldilocks side by side in lanes.
 ghost use Rattle.std.{specs.Prelude.{◌≡◌, ℕ, ◌<◌, ◌+◌, ◌-◌, ◌*◌, ◌%◌, slice_index}, proofs.Common.{lit<, lit≤}};
 ghost use Rattle.p3_goldilocks.specs.GoldilocksResidues.{order, residues};
 ghost use Rattle.p3_field_core.specs.Residues.{sum_of, difference_of, product_of};
@@ -9,13 +9,13 @@ use p3_goldilocks::Goldilocks;
 use std::ops::{Add, Mul, Sub};
 use std::simd::{Simd, u64x4};
 
-/// Four elements of [`Goldilocks`] side by side, kept as their canonical numbers.
+/// Four elements of [`Goldilocks`] side by side, stored as their canonical numbers.
 ///
-/// Each number is below the order, and the type says so: two such values are equal where their
-/// elements are. Sums and differences are those of a vector, products those of one lane after the
-/// other.
+/// Each number is below the order, by an invariant of the type, so two such values are equal where
+/// their elements are. Sums and differences are vector operations; products are computed lane by
+/// lane.
 ///
-/// Not in the Rust crate, whose packed fields are a type each for each instruction set.
+/// Not in the Rust crate, which has a packed type for each field and instruction set.
 #[derive(Clone, Copy, Debug, PartialEq, Eq)]
 pub struct GoldilocksLanes {
     numbers: [u64; 4],

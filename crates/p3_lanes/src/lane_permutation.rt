@@ -4,23 +4,23 @@ ghost use Rattle.std.specs.{Prelude.{◌≡◌, ◌<◌, ◌*◌, ◌^◌, ℕ, 
 use crate::{PackedField, PackedValue};
 use p3_symmetric::CryptographicPermutation;
 
-/// A permutation that also works on states side by side, one in each lane of the cells. What it
-/// makes of a lane is what it makes of that state alone.
+/// A permutation that also permutes states side by side, one in each lane of the cells. The result
+/// in a lane is that of the same state alone.
 ///
-/// A permutation made of additions and products of elements does the same with lanes; for any other
-/// there is [`permute_each_lane`]. The Rust crate asks for a second permutation in its place, of
-/// packed states, which nothing ties to the first.
+/// A permutation made of additions and products of elements works on lanes in the same way. For any
+/// other permutation there is [`permute_each_lane`]. The Rust crate instead requires a second
+/// permutation, of packed states, with no connection to the first.
 pub trait LanePermutation<F: PackedField, const WIDTH: usize>: CryptographicPermutation<
     [F; WIDTH],
 > {
-    /// Permutes in place the states that stand in the lanes.
+    /// Permutes in place the states in the lanes.
     fn permute_lanes(&self, state: &mut [F::Packing; WIDTH])
         ensures { (l : ℕ) → l < F.Packing.WIDTH → map (F.Packing.in_lane l) state.new
             ≡ Self.permutation self.now (map (F.Packing.in_lane l) state.old) };
 }
 
-/// Permutes in place the states that stand in the lanes, one after another: a body for
-/// [`permute_lanes`](LanePermutation::permute_lanes) of a permutation that knows no lanes.
+/// Permutes in place the states in the lanes, one after another. It implements
+/// [`permute_lanes`](LanePermutation::permute_lanes) for a permutation without support for lanes.
 ///
 /// A state takes less than 2^63 bytes. Not in the Rust crate.
 pub fn permute_each_lane<

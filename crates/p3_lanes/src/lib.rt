@@ -1,5 +1,5 @@
-//! Field elements side by side in lanes, on which an operation is done at once, and permutations
-//! of states side by side.
+//! Field elements side by side in lanes, with operations on all lanes at once, and permutations of
+//! states side by side.
 #![tactic(auto)]
 
 mod goldilocks_lanes;

@@ -1,15 +1,15 @@
-//! Fields whose elements are there in lanes too.
+//! Fields with elements in lanes.
 ghost use Rattle.std.specs.Prelude.{◌<◌};
 ghost use Rattle.p3_field_core.specs.Sizes.{IsSmall};
 
 use crate::PackedValue;
 use p3_field_core::Field;
 
-/// A field whose elements are there in lanes too.
+/// A field whose elements also exist in lanes.
 ///
-/// `p3-field` has `Packing` in `Field` itself.
+/// In `p3-field`, `Packing` is a member of `Field` itself.
 pub trait PackedField: Field {
-    /// Some elements at once, one in each lane. There is at least one lane.
+    /// Several elements at once, one in each of at least one lane.
     type Packing: PackedValue<Self>;
 
     ghost some_lanes: { 0 < Self.Packing.WIDTH };

@@ -1,4 +1,4 @@
-//! Elements side by side in lanes, on which an operation is done at once.
+//! Elements side by side in lanes, with operations on all lanes at once.
 ghost use Rattle.std.specs.Prelude.{◌≡◌, ℕ, ◌<◌, nat_eq, if◌then◌else◌};
 ghost use Rattle.p3_field_core.specs.Residues.{sum_of, difference_of, product_of};
 
@@ -6,15 +6,15 @@ use p3_field_core::PrimeCharacteristicRing;
 use std::ops::{Add, Mul, Sub};
 
 /// Elements of a ring side by side, one in each of `WIDTH` lanes. The sum, the difference and the
-/// product of two such values have in each lane those of the elements there.
+/// product of two such values are computed in each lane.
 ///
-/// `p3-field`'s `PackedValue`, which lends its lanes as a slice, where this one copies an element out
-/// of a lane.
+/// Corresponds to `p3-field`'s `PackedValue`, which lends its lanes as a slice. This trait copies an element out of
+/// a lane.
 pub trait PackedValue<F: PrimeCharacteristicRing>: Copy
     + Add<Self, Output = Self>
     + Sub<Self, Output = Self>
     + Mul<Self, Output = Self> {
-    /// How many lanes there are.
+    /// The number of lanes.
     const WIDTH: usize;
 
     ghost WIDTH: { ℕ };
@@ -22,22 +22,22 @@ pub trait PackedValue<F: PrimeCharacteristicRing>: Copy
     // The element in each lane.
     ghost in_lane: { ℕ → Self → F };
 
-    /// The same element in each lane.
+    /// Returns a value with the same element in each lane.
     fn broadcast(value: F) -> Self
         ensures { (l : ℕ) → l < WIDTH → in_lane l result ≡ value };
 
-    /// The element in a lane.
+    /// Returns the element in a lane.
     fn lane(self, index: usize) -> F
         requires { index < WIDTH }
         ensures { result ≡ in_lane index self };
 
-    /// The value with the element of one lane replaced. Not in `p3-field`'s trait.
+    /// Returns the value with the element of one lane replaced. Not in `p3-field`'s trait.
     fn with_lane(self, index: usize, value: F) -> Self
         requires { index < WIDTH }
         ensures { (l : ℕ) → l < WIDTH →
             in_lane l result ≡ (if nat_eq l index then value else in_lane l self) };
 
-    /// In each lane what the function gives for its place.
+    /// Returns a value with the function's result for each lane in that lane.
     final fn from_fn<G: Fn(usize) -> F>(element: G) -> Self
         requires { (l : ℕ) → l < WIDTH → G.pre element l }
         ensures { (l : ℕ) → l < WIDTH → G.post element l (in_lane l result) }

@@ -10,13 +10,14 @@ use p3_small_primes::{BabyBear, F257, KoalaBear, SmallOrder, SmallPrime};
 use std::ops::{Add, Mul, Sub};
 use std::simd::Simd;
 
-/// `N` elements of the prime field of order `ORDER` side by side, kept as their canonical numbers.
+/// `N` elements of the prime field of order `ORDER` side by side, stored as their canonical
+/// numbers.
 ///
-/// Each number is below the order, and the type says so: two such values are equal where their
-/// elements are. Sums and differences are those of a vector, products those of one lane after the
-/// other.
+/// Each number is below the order, by an invariant of the type, so two such values are equal where
+/// their elements are. Sums and differences are vector operations; products are computed lane by
+/// lane.
 ///
-/// Not in the Rust crate, whose packed fields are a type each for each instruction set.
+/// Not in the Rust crate, which has a packed type for each field and instruction set.
 #[derive(Clone, Copy, Debug, PartialEq, Eq)]
 pub struct SmallPrimeLanes<const ORDER: u32, const N: usize> {
     numbers: [u32; N],
@@ -26,17 +27,17 @@ pub struct SmallPrimeLanes<const ORDER: u32, const N: usize> {
 
 /// Eight elements of [`BabyBear`] side by side, one in each lane.
 ///
-/// Not in the Rust crate, whose packed fields are a type each for each instruction set.
+/// Not in the Rust crate, which has a packed type for each field and instruction set.
 pub type BabyBearLanes = SmallPrimeLanes<2013265921, 8>;
 
 /// Eight elements of [`KoalaBear`] side by side, one in each lane.
 ///
-/// Not in the Rust crate, whose packed fields are a type each for each instruction set.
+/// Not in the Rust crate, which has a packed type for each field and instruction set.
 pub type KoalaBearLanes = SmallPrimeLanes<2130706433, 8>;
 
 /// Four elements of [`F257`] side by side, one in each lane.
 ///
-/// Not in the Rust crate, whose packed fields are a type each for each instruction set.
+/// Not in the Rust crate, which has a packed type for each field and instruction set.
 pub type F257Lanes = SmallPrimeLanes<257, 4>;
 
 impl<const ORDER: u32, const N: usize> Add for SmallPrimeLanes<ORDER, N>

@@ -1,5 +1,5 @@
--- A multi-field challenger over segments of calls: what it draws, and what it queries its permutation with, as a
--- function of whole segments.
+-- A multi-field challenger over segments of calls: its draws and its queries to the permutation, as functions of whole
+-- segments.
 use Rattle.std.specs.Prelude.{ℕ, zero, suc, ◌+◌, ◌-◌, ◌/◌, List, [], ◌∷◌, length, take, drop}
 use Rattle.p3_challenger_core.specs.Segments.{stays, run_before, BySegments}
 use Rattle.p3_sponge.specs.SpongeSegments.{run_values, opened, run_draws, opened_cells}
@@ -13,7 +13,7 @@ pub record Stretch (F PF : Type 0) : Type 0 where
   pub words : List PF
   pub scalars : List F
 
--- scalars up to the first digest, and then the digests, each with the scalars after it
+-- the scalars up to the first digest, and the digests, each with the scalars after it
 pub record Stretches (F PF : Type 0) : Type 0 where
   pub scalars : List F
   pub digests : List (Stretch F PF)
@@ -25,7 +25,7 @@ stretches (digest words ∷ symbols) =
     let cut = stretches symbols in
     record { scalars = []; digests = record { words = words; scalars = cut.scalars } ∷ cut.digests }
 
--- how many blocks of a size values fill, the last one perhaps in part
+-- the number of blocks of a size that values fill, the last one perhaps in part
 abbrev pub block_count : ℕ → ℕ → ℕ
 block_count size count = (count + (size - 1)) / size
 
@@ -35,7 +35,7 @@ module _ {F PF : Type 0} (pair : FieldPair F PF) (permute : List PF → List PF)
 
   -- ---- a digest
 
-  -- the cells after the first n blocks of words, each as long as the rate or, the last one, shorter
+  -- the cells after the first n blocks of words, each as long as the rate, except perhaps the last
   unfoldable pub absorbed_words : ℕ → List PF → List PF → List PF
   absorbed_words zero cells words = cells
   absorbed_words (suc n) cells words =
@@ -48,7 +48,7 @@ module _ {F PF : Type 0} (pair : FieldPair F PF) (permute : List PF → List PF)
       let block_over = overwritten pair.outer rate cells (take rate words) in
       block_over ∷ word_queries n (permute block_over) (drop rate words)
 
-  -- words where nothing is pending: with none nothing changes
+  -- the effect of words without pending scalars; no words change nothing
   abbrev pub run_words : MultiFieldSponge F PF → List PF → SpongeRun (List PF) F
   run_words start [] = stays start
   run_words start (w ∷ ws) =
@@ -59,7 +59,7 @@ module _ {F PF : Type 0} (pair : FieldPair F PF) (permute : List PF → List PF)
         after = emptied (absorbed_words n start.cells (w ∷ ws)) rule.row_len;
       }
 
-  -- a digest: what is pending is absorbed and the outputs left are dropped, and then come its words
+  -- the effect of a digest: pending scalars are absorbed, the outputs left are dropped, and its words follow
   abbrev pub run_digest : MultiFieldSponge F PF → List PF → SpongeRun (List PF) F
   run_digest start words =
       let opening = opened rule start.cells start.pending 0 in run_before opening (run_words opening.after words)
@@ -80,14 +80,14 @@ module _ {F PF : Type 0} (pair : FieldPair F PF) (permute : List PF → List PF)
       let first = run_values rule start cut.scalars in
       run_before first (run_stretches first.after cut.digests)
 
-  -- the cells that draws after symbols begin at: all that is pending and the symbols are absorbed, scalars that do not
-  -- fill the rate too
+  -- The cells at the start of the draws after symbols. Everything pending and the symbols are absorbed, including
+  -- scalars that do not fill the rate.
   abbrev pub absorbed_cells : MultiFieldSponge F PF → List (Symbol F PF) → List PF
   absorbed_cells start symbols = opened_cells rule (run_symbols start symbols).after
 
   -- ---- segments
 
-  -- each segment goes on where the one before it stopped, and the digest is the rate after one step more
+  -- each segment continues where the one before it stopped, and the digest is the rate after one more step
   abbrev pub multi_field_by_segments : BySegments (Symbol F PF) F (List PF) (List PF) (MultiFieldSponge F PF)
   multi_field_by_segments =
       record { values = run_symbols; draws = run_draws rule; ended = λ s. s; digest = run_end rule (take rate) }

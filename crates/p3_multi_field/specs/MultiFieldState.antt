@@ -10,9 +10,10 @@ use Rattle.p3_sponge.specs.Outputs as in_order
 use Rattle.p3_sponge.specs.SpongeCalls as sponge
 use Rattle.p3_multi_field.specs.MultiFieldCalls as calls
 
--- What a challenger keeps of its numbers: the rate is some cells but not all of them; the order of the scalars is
--- below that of the cells; a cell packs some scalars and gives some digits; the rate packs at most 255 scalars, and
--- fewer are pending; no more outputs are left than the rate gives digits, and none where a scalar is pending.
+-- Bounds of a challenger's numbers. The rate is positive and below the number of cells. The order of the scalars is
+-- below that of the cells. A cell packs at least one scalar and gives at least one digit. The rate packs at most
+-- 255 scalars, and fewer are pending. No more outputs are left than the rate has digits, and none while a scalar is
+-- pending.
 pub record KeepsNumbers (width rate order greater absorb squeeze scalars outputs_left : ℕ) : Type 0 where
   pub positive : 0 < rate
   pub capacity : rate < width
@@ -24,17 +25,17 @@ pub record KeepsNumbers (width rate order greater absorb squeeze scalars outputs
   pub left : outputs_left ≤ rate * squeeze
   pub none_left : 0 < scalars → outputs_left ≡ 0
 
--- values in order, each observed as another value
+-- values in order, each observed as a value of another type
 abbrev pub each_observed : {S T X : Type 0} → (X → T) → (S → T → S) → S → List X → S
 each_observed value_of observed s xs = observed_all (λ u x. observed u (value_of x)) s xs
 
--- its sponge, and the permutation, which stays
+-- the sponge of a challenger, and the permutation, which never changes
 pub record MultiFieldState (F PF P : Type 0) : Type 0 where
   pub sponge : MultiFieldSponge F PF
   pub permutation : P
 
 module _ {F PF P : Type 0} (pair : FieldPair F PF) (permute : P → List PF → List PF) (rate : ℕ) where
-  -- how scalars are absorbed and digits drawn, under the function that each permutation is
+  -- the rules by which scalars are absorbed and digits drawn, given the function of each permutation
   abbrev pub rule : MultiFieldState F PF P → SpongeRule (List PF) F
   rule c = scalars_rule pair (permute c.permutation) rate
 
@@ -51,11 +52,11 @@ module _ {F PF P : Type 0} (pair : FieldPair F PF) (permute : P → List PF → 
   abbrev pub observed : MultiFieldState F PF P → Symbol F PF → MultiFieldState F PF P
   observed c symbol = record c { sponge = calls.observed pair (permute c.permutation) rate c.sponge symbol }
 
-  -- what symbols feed: each is observed, in order
+  -- feeding symbols: each is observed, in order
   abbrev pub fed : MultiFieldState F PF P → List (Symbol F PF) → MultiFieldState F PF P
   fed c symbols = observed_all observed c symbols
 
-  -- scalars, observed in order
+  -- the state after scalars are observed in order
   abbrev pub scalars_observed : MultiFieldState F PF P → List F → MultiFieldState F PF P
   scalars_observed c xs = observed_all scalar_observed c xs
 
@@ -65,7 +66,7 @@ module _ {F PF P : Type 0} (pair : FieldPair F PF) (permute : P → List PF → 
   abbrev pub after_sampled : MultiFieldState F PF P → MultiFieldState F PF P
   after_sampled c = record c { sponge = sponge.after_sampled (rule c) c.sponge }
 
-  -- what n draws give, in order
+  -- the results of n draws, in order
   abbrev pub drawn : ℕ → MultiFieldState F PF P → List F
   drawn n c = in_order.drawn sampled after_sampled n c
 
@@ -73,19 +74,19 @@ module _ {F PF P : Type 0} (pair : FieldPair F PF) (permute : P → List PF → 
   abbrev pub after_drawn : ℕ → MultiFieldState F PF P → MultiFieldState F PF P
   after_drawn n c = after_steps after_sampled n c
 
-  -- the digest that it ends in
+  -- the final digest
   abbrev pub finalized : MultiFieldState F PF P → List PF
   finalized c = take rate (sponge.duplexed (rule c) c.sponge).cells
 
-  -- what calls do from a challenger on
+  -- the effect of calls from a challenger on
   abbrev pub run : MultiFieldState F PF P → List (Call (Symbol F PF)) → Run F (List PF) (MultiFieldSponge F PF)
   run c calls = run_calls (multi_field_by_calls pair (permute c.permutation) rate) c.sponge calls
 
-  -- what calls that end in a digest do
+  -- the effect of calls that end in a digest
   abbrev pub run_to_digest : MultiFieldState F PF P → List (Call (Symbol F PF)) → Run F (List PF) (List PF)
   run_to_digest c calls = run_calls_to_digest (multi_field_by_calls pair (permute c.permutation) rate) c.sponge calls
 
-  -- the same over the segments of the calls
+  -- the effect of the segments of calls
   abbrev pub run_by_segments : MultiFieldState F PF P → List (Call (Symbol F PF)) → Run F (List PF) (MultiFieldSponge F PF)
   run_by_segments c calls =
       run_segments (multi_field_by_segments pair (permute c.permutation) rate) c.sponge (segments calls)
@@ -98,12 +99,12 @@ module _ {F PF P : Type 0} (pair : FieldPair F PF) (permute : P → List PF → 
   abbrev pub after_calls : MultiFieldState F PF P → List (Call (Symbol F PF)) → MultiFieldState F PF P
   after_calls c calls = record c { sponge = (run c calls).after }
 
-  -- what a value does to each challenger is what calls do
+  -- the effect of a value on each challenger is that of calls
   abbrev pub ActsAsCalls : {X : Type 0} → (MultiFieldState F PF P → X → MultiFieldState F PF P) →
       (X → List (Call (Symbol F PF))) → Type 0
   ActsAsCalls {X} act calls = (c : MultiFieldState F PF P) (x : X) → act c x ≡ after_calls c (calls x)
 
-  -- each draw after symbols answers its output, counted from the cells that they leave when they are all absorbed
+  -- each draw after symbols gives its output, counted from the cells after all symbols are absorbed
   abbrev pub DrawsHavePlaces : MultiFieldState F PF P → List (Symbol F PF) → ℕ → Type 0
   DrawsHavePlaces c symbols n =
       let cells = absorbed_cells pair (permute c.permutation) rate c.sponge symbols in

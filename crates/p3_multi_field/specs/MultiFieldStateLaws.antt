@@ -24,7 +24,7 @@ module _ {F PF P : Type 0} (pair : FieldPair F PF) (permute : P → List PF → 
   scalars-fed c [] = refl
   scalars-fed c (x ∷ xs) = scalars-fed (observed pair permute rate c (scalar x)) xs
 
-  -- and so are digests
+  -- digests are fed as one symbol each
   pub digests-fed : (c : MultiFieldState F PF P) (digests : List (List PF))
       → observed_all (digest_observed pair permute rate) c digests ≡ fed pair permute rate c (map digest digests)
   digests-fed c [] = refl
@@ -40,7 +40,7 @@ module _ {F PF P : Type 0} (pair : FieldPair F PF) (permute : P → List PF → 
       ∙ (λ i. fed pair permute rate (scalars-fed c (items x) i) (flat_map (λ y. map scalar (items y)) xs))
       ∙ fed-append c (map scalar (items x)) (flat_map (λ y. map scalar (items y)) xs)
 
-  -- what is observed is what is fed
+  -- observations feed their symbols
   pub is_observation : {X : Type 0} (symbols : X → List (Symbol F PF))
       (observed_value : MultiFieldState F PF P → X → MultiFieldState F PF P)
       → ((c : MultiFieldState F PF P) (x : X) → observed_value c x ≡ fed pair permute rate c (symbols x))

@@ -1,4 +1,4 @@
--- Laws of the symbols that a multi-field challenger is fed: they are read back.
+-- Laws of the symbols fed to a multi-field challenger: they determine the values.
 use Rattle.std.proofs.Common.{◌≡◌, ℕ, List, [], ◌∷◌, ◌++◌, length, map, refl, ap, ◌∙◌, arith}
 use Rattle.p3_challenger_core.specs.Reading.{IsPrefixCode, IsPrefixCodeOn}
 use Rattle.p3_multi_field.specs.MultiFieldCalls.{Symbol, scalar, digest}
@@ -21,13 +21,13 @@ module _ {F PF : Type 0} where
       let others = scalars-read xs ys a b fewer first.1 in
       (ap (λ z. z ∷ xs) first.0 ∙ ap (λ zs. y ∷ zs) others.0, others.1)
 
-  -- as many scalars are a prefix code
+  -- equally many scalars are a prefix code
   pub scalars-prefix_code : (N : ℕ)
       → IsPrefixCodeOn {T = List F} {S = Symbol F PF} (λ xs. length xs ≡ N) (λ xs. map scalar xs)
   scalars-prefix_code N xs ys a b x_is y_is e =
       let same : length xs ≡ length ys = omega (arith, x_is, y_is) in scalars-read xs ys a b same e
 
-  -- a digest is one symbol, which its words tell apart
+  -- a digest is one symbol, which its words determine
   pub digest-prefix_code : {X : Type 0} (words : X → List PF) → ((x y : X) → words x ≡ words y → x ≡ y)
       → IsPrefixCode {T = X} {S = Symbol F PF} (λ x. digest (words x) ∷ [])
   digest-prefix_code words tells x y a b e =

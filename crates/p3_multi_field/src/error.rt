@@ -4,9 +4,9 @@ ghost use Rattle.p3_multi_field.specs.Refusals.{SaySame};
 
 use thiserror::Error;
 
-/// Why two fields do not make a multi-field challenger. No challenger stands after either.
+/// Says why two fields make no multi-field challenger. No challenger is made after either error.
 ///
-/// The Rust crate's `MultiField32ChallengerError`, which names fields by the compiler's names of their types.
+/// The Rust crate's `MultiField32ChallengerError` takes the names of fields from the compiler.
 #[derive(Clone, Copy, Debug, PartialEq, Eq, Error)]
 pub enum MultiField32ChallengerError {
     /// The order of the field of the scalars is not below that of the field of the cells.
@@ -17,12 +17,11 @@ pub enum MultiField32ChallengerError {
         /// The name of the field of the cells.
         sponge_field: &'static str,
     },
-    /// The orders are as they must be, but so many scalars are absorbed at once that the tag that counts them passes
-    /// a byte.
+    /// The orders are right, but the number of scalars absorbed at once does not fit in a tag of one byte.
     #[error("a full absorb batch contains {batch_len} sampled-field elements, \
          exceeding the u8 length-tag limit of {max}")]
     AbsorbLengthTagOverflow {
-        /// How many scalars the rate packs, at most 2^64 - 1.
+        /// The number of scalars that the rate packs, at most 2^64 - 1.
         batch_len: usize,
         /// The greatest tag: 255.
         max: usize,
@@ -30,8 +29,7 @@ pub enum MultiField32ChallengerError {
 }
 
 impl MultiField32ChallengerError {
-    /// Two errors compare equal exactly where they say the same: that of one variant, with the same names and numbers,
-    /// wherever the names lie.
+    /// Two errors compare equal exactly where they have the same variant, names and numbers, wherever the names lie.
     ///
     /// A law: the body is empty, and a caller cites the clause.
     #[tactic(auto, using(crate::proofs::ErrorEquality::equal_errors))]

@@ -1,9 +1,9 @@
-//! What the two fields owe.
+//! The obligations of the two fields.
 use p3_field_bridge::FieldBridge;
 use p3_field_core::PrimeField64;
 
-/// What contracts see of a field `F` of scalars and the field of the cells, which it is written for: both fields, and
-/// how elements are packed and drawn.
+/// The view of contracts on a field of cells, which implements this trait, and a field `F` of scalars. It has both
+/// fields, and the packing and drawing of elements.
 ///
 /// Not in the Rust crate.
 pub trait HasFieldPair<F> {

@@ -1,6 +1,6 @@
-//! The challenger over two fields: it observes and draws elements of one, packed into cells of a greater one.
+//! The challenger over two fields: it observes and draws elements of one, packed into cells of a larger one.
 //!
-//! What is called a law is a function without effect whose contract a caller cites. The Rust crate has none.
+//! A law is a function without effect whose contract a caller cites. The Rust crate has none.
 #![tactic(auto)]
 
 mod error;

@@ -1,8 +1,8 @@
-//! The challenger of scalars of one field over a sponge of cells of a larger one, and what it does with scalars.
+//! The challenger of scalars of one field over a sponge of cells of a larger one.
 //!
 //! ```text
 //! observe ->  pending scalars, fewer than the rate packs
-//!                |  packed, so many to a cell, the first ones lowest; their number is added to the cell after the rate
+//!                |  packed, several to a cell, the first ones lowest; their number is added to the cell after the rate
 //!                v
 //!             [ rate | capacity ]
 //!                |  the permutation
@@ -10,7 +10,7 @@
 //! sample  <-  digits of the cells of the rate, the last one first
 //! ```
 //!
-//! A digest of cells is absorbed at once: its words are written over the rate, and their number is added.
+//! A digest of cells is absorbed at once: its words overwrite the rate, and their number is added.
 ghost use Rattle.std.specs.Prelude.{◌≡◌, ◌*◌, ◌<◌, ◌≤◌, ◌+◌, List, [], IfOk, IfErr, length, take};
 ghost use Rattle.p3_multi_field.specs.{MultiFieldCalls.{fresh, queued, Symbol}, MultiFieldReadBack.ReadsBack};
 ghost use Rattle.p3_multi_field.specs.MultiFieldState.{duplexed, scalar_observed, scalars_observed, sampled};
@@ -40,28 +40,28 @@ use std::marker::Model;
 // The greatest tag of an absorb, and so the most scalars that may be pending.
 const MOST_SCALARS: usize = 255;
 
-/// A challenger that observes and draws elements of `F`, made of a permutation of `WIDTH` cells of a greater field
-/// `PF`, of which the first `RATE` are the rate.
+/// A challenger that observes and draws elements of `F`, over a permutation of `WIDTH` cells of a larger field `PF`.
+/// The first `RATE` cells are the rate.
 ///
-/// A scalar that is observed is pending until the rate can pack no more, or until a draw finds no output left. Then
-/// what is pending is absorbed: each cell of the rate gets the element that packs the next scalars, as many as it
-/// can, and zero where none are left; the number of scalars is added to the cell after the rate, and the cells are
-/// permuted. A digest of words of `PF` first absorbs what is pending; then blocks of words, each at most as long as
-/// the rate, are written over the rate with zeros after them, each with its own count.
+/// Observed scalars are pending until the rate can pack no more, or until a draw finds no output left. Then they are
+/// absorbed. Each cell of the rate gets the element that packs the next scalars, as many as it can, and zero where none
+/// are left. The number of scalars is added to the cell after the rate, and the cells are permuted. A digest of words
+/// of `PF` first absorbs the pending scalars. Then blocks of words, each at most as long as the rate, overwrite the
+/// rate with zeros after them, each with its own count.
 ///
-/// The digits of the cells of the rate, in the base of the order of `F`, are then the outputs, drawn from the last
-/// digit of the last cell backwards. A scalar or a digest drops the outputs left, and a draw that finds none, and
-/// nothing pending, permutes the cells.
+/// The outputs are then the digits of the cells of the rate, in the base of the order of `F`. They are drawn from the
+/// last digit of the last cell backwards. A scalar or a digest drops the outputs left. A draw with no output left and
+/// nothing pending permutes the cells.
 ///
-/// No call but [`sample_vec`](CanSample::sample_vec) takes memory. No observe and no draw is refused besides; a search
-/// may find no witness.
+/// Only [`sample_vec`](CanSample::sample_vec) takes memory. No other observation or draw is refused, and a search may
+/// find no witness.
 ///
-/// A symbol is a scalar, or a digest with all its words. A number of some bits is the low bits of one drawn scalar. The
-/// digest at the end is the `RATE` cells of the rate after one more permutation.
+/// A symbol is a scalar, or a digest with all its words. A number of bits is the low bits of one drawn scalar. The
+/// final digest is the `RATE` cells of the rate after one more permutation.
 ///
-/// The Rust crate's `MultiField32Challenger`, which wraps a duplex challenger. Here it is a sponge of its own, and its
-/// counts are those of a [`FieldBridge`]. It prints the cells, what is pending and how many outputs are left, and shows
-/// nothing of what was absorbed.
+/// The Rust crate's `MultiField32Challenger` wraps a duplex challenger. Here the challenger is a sponge of its own, and
+/// its counts are those of a [`FieldBridge`]. Its debug text shows the cells, what is pending and how many outputs are
+/// left, and nothing of what was absorbed.
 #[derive(Drop)]
 pub struct MultiField32Challenger<
     F: PrimeField32,
@@ -130,16 +130,16 @@ impl<
     const WIDTH: usize,
     const RATE: usize,
 > MultiField32Challenger<F, PF, P, WIDTH, RATE> {
-    /// A challenger of zeros, with nothing pending and no output. `RATE` is at least 1 and below `WIDTH`.
+    /// Returns a challenger of zeros, without pending scalars and outputs. `RATE` is at least 1 and below `WIDTH`.
     ///
     /// The errors are [`MultiField32ChallengerError::FieldOrderNotIncreasing`], exactly where the order of `F` is not
     /// below that of `PF`, and else [`MultiField32ChallengerError::AbsorbLengthTagOverflow`], exactly where the rate
     /// packs more than 255 scalars. No challenger is made then.
     ///
-    /// What it permutes tells which scalars it observed, where it observes scalars alone, for those who check the
-    /// permutations and not the calls: where the order of `PF` exceeds how many scalars the rate packs, two lists of
-    /// such calls that permute the same states, and leave the same pending, observed the same scalars. Of a scalar and
-    /// a digest no such thing is said.
+    /// For those who check the permutations and not the calls, the permuted states determine the observed scalars. The
+    /// premises are that it observes only scalars, and that the order of `PF` exceeds the number of scalars that the
+    /// rate packs. Then two lists of such calls that permute the same states and leave the same pending scalars
+    /// observed the same scalars. Nothing is said of calls that observe digests.
     pub fn new(permutation: P) -> Result<Self, MultiField32ChallengerError>
         requires rate { 0 < RATE }
         requires capacity { RATE < WIDTH }
@@ -185,10 +185,9 @@ impl<
     const WIDTH: usize,
     const RATE: usize,
 > MultiField32Challenger<F, PF, P, WIDTH, RATE> {
-    /// The segments of calls, whole: from this challenger on, every list of calls gives the answers,
-    /// makes the queries to the permutation, and leaves the sponge, that its segments name; and so
-    /// do calls that end in a digest. No state is left out: a permutation that gives the same on those
-    /// that are queried makes the calls do the same.
+    /// Segments determine all calls. From this challenger on, every list of calls has the results, the queries to the
+    /// permutation and the final sponge that its segments name. So have calls that end in a digest. The queries are
+    /// complete: another permutation with the same results on the queried states gives the same calls.
     ///
     /// A law: the body does nothing, and a caller cites the clauses.
     pub fn follows_segments(&self)
@@ -209,29 +208,29 @@ impl<
         let _ = &self.outputs_left;
     }
 
-    /// In how many bits a scalar is packed: the least count that holds the canonical number of each.
+    /// Returns the number of bits in which a scalar is packed: the least that holds every canonical number.
     pub fn absorb_radix_bits(&self) -> u32
         ensures { result ≡ PF.RADIX_BITS }
     {
         PF::RADIX_BITS
     }
 
-    /// How many scalars are packed into one cell.
+    /// Returns how many scalars are packed into one cell.
     pub fn absorb_num_f_elms(&self) -> usize
         ensures { result ≡ PF.ABSORB_COUNT }
     {
         PF::absorb_num()
     }
 
-    /// How many digits of one cell are drawn.
+    /// Returns how many digits of one cell are drawn.
     pub fn squeeze_num_f_elms(&self) -> usize
         ensures { result ≡ PF.SQUEEZE_COUNT }
     {
         PF::squeeze_num()
     }
 
-    /// How many digits a draw has queued that were neither drawn since nor dropped: 0 after an absorb, until the next
-    /// draw queues the digits of the rate and takes one.
+    /// Returns how many digits a draw has queued that were neither drawn nor dropped since. The number is 0 after an
+    /// absorption. The next draw queues the digits of the rate and takes one.
     pub fn pending_f_squeeze_len(&self) -> usize
         ensures { result ≡ queued ⟦<PF as HasFieldPair<F>>⟧.field_pair RATE self.now.sponge }
     {
@@ -242,9 +241,9 @@ impl<
         }
     }
 
-    /// The same challenger once more. It takes no memory, so it cannot fail.
+    /// Returns a copy of the challenger. The copy takes no memory, so it cannot fail.
     ///
-    /// The Rust crate's `Clone`.
+    /// Corresponds to the Rust crate's `Clone`.
     pub fn clone(&self) -> Self
         ensures { result ≡ self.now }
     {

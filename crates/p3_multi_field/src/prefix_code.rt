@@ -1,4 +1,4 @@
-//! What a multi-field challenger feeds is a prefix code: the premises of the laws on symbols.
+//! A multi-field challenger feeds a prefix code: the premises of the laws on symbols.
 ghost use Rattle.std.specs.Prelude.{◌≡◌, length};
 ghost use Rattle.p3_challenger_core.specs.Reading.{IsPrefixCode, IsPrefixCodeOn};
 
@@ -22,8 +22,7 @@ pub fn multi_field_scalars_are_prefix_code<
         ⟦<MultiField32Challenger<F, PF, P, WIDTH, RATE> as CanObserve<F>>⟧.observation.symbols }
 {}
 
-/// Arrays of `N` scalars feed symbols that are a prefix code, and so do digests of `N` words, each of which is one
-/// symbol.
+/// Arrays of `N` scalars feed a prefix code. So do digests of `N` words, each of which is one symbol.
 ///
 /// A law: the body is empty, and a caller cites the clauses.
 pub fn multi_field_arrays_are_prefix_code<

@@ -1,10 +1,11 @@
-//! What a multi-field challenger is fed: a scalar, or a digest with all its words.
+//! The symbols fed to a multi-field challenger: scalars, and digests with all their words.
 use std::marker::Model;
 
-/// What a multi-field challenger absorbs at once, as contracts see it: a scalar, or a digest with all its words.
+/// The view of contracts on what a multi-field challenger absorbs at once: a scalar, or a digest with all its
+/// words.
 ///
-/// A digest is one symbol, and not one for each word: its words are absorbed in blocks, each with its own count, so
-/// that two digests of a word are not one digest of two.
+/// A digest is one symbol, and not one for each word. Its words are absorbed in blocks, each with its own count, so
+/// two digests of one word differ from one digest of two words.
 ///
 /// Not in the Rust crate.
 #[derive(Drop)]

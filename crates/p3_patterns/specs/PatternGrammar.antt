@@ -1,16 +1,16 @@
--- Patterns of steps: which lists of steps they are, and what is first wrong with a list that is none.
+-- Patterns of steps: the lists of steps that are patterns, and the first fault of a list that is not.
 use Rattle.std.specs.Prelude.{◌≡◌, ℕ, ◌⊎◌, List, [], ◌∷◌, ◌++◌, length}
 use Rattle.p3_fs_core.specs.declared.step.{Hierarchy.TheVariants.{Atomic, Begin, End}, Kind.Kind}
 use Rattle.p3_fs_core.specs.declared.{step.Kind.TheVariants.Protocol, error.TranscriptError.TranscriptError}
 use Rattle.p3_fs_core.specs.{Steps.{Step, Closes}, Errors.{Fault, missing_begin, invalid_kind, mismatched_begin_end}}
 use Rattle.p3_fs_core.specs.Errors.{missing_end, IsFault, refusal_of}
 
--- the step may stand directly in a container of the kind: a protocol takes any, another kind its own alone
+-- the step may stand directly in a container of the kind: a protocol allows any, another kind only its own
 abbrev pub Allows : Kind → Step → Type 0
 Allows kind s = (kind ≡ Protocol) ⊎ (s.kind ≡ kind)
 
--- What may stand in a container of the kind: steps that it allows, each of them a leaf, or an opener after
--- which stand a pattern of the opener's own kind and a closer that closes it.
+-- The steps may stand in a container of the kind. Each is an allowed leaf, or an allowed opener followed
+-- by a pattern of the opener's own kind and a matching closer.
 pub data IsPattern : Kind → List Step → Type 0 where
   nothing : (kind : Kind) → IsPattern kind []
   leaf : (kind : Kind) (s : Step) (rest : List Step) → s.hierarchy ≡ Atomic → Allows kind s → IsPattern kind rest →
@@ -23,12 +23,12 @@ pub data IsPattern : Kind → List Step → Type 0 where
 abbrev pub IsViable : List Step → Type 0
 IsViable steps = (more : List Step) × IsPattern Protocol (steps ++ more)
 
--- the step may come next after those: some pattern begins with them and this one
+-- the step may come next after these: some pattern begins with them and the step
 abbrev pub MayFollow : Step → List Step → Type 0
 MayFollow s steps = IsViable (steps ++ (s ∷ []))
 
--- The opener at the position is the innermost one that is still open: what stands after it is a pattern of
--- its kind. No two openers of a list are so, hence it is the last one.
+-- The opener at the position is the innermost one still open: the steps after it form a pattern of its
+-- kind. A list has at most one such opener, the last one that is open.
 pub record IsInnermost (steps : List Step) (position : ℕ) (opener : Step) : Type 0 where
   pub before : List Step
   pub inside : List Step
@@ -41,7 +41,7 @@ pub record IsInnermost (steps : List Step) (position : ℕ) (opener : Step) : Ty
 abbrev pub IsNoneOpen : List Step → Type 0
 IsNoneOpen steps = (position : ℕ) (opener : Step) → IsInnermost steps position opener → ⊥
 
--- The steps before the position are those of some pattern, and with the step there they are not: so it is
+-- Some pattern begins with the steps before the position, and none with those and the step there. So it is
 -- the least such position.
 pub record StopsAt (steps : List Step) (position : ℕ) (s : Step) : Type 0 where
   pub before : List Step

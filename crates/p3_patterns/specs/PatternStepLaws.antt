@@ -1,11 +1,11 @@
--- Laws of patterns: one is its steps alone.
+-- Laws of patterns: a pattern is determined by its steps.
 use Rattle.std.{specs.{Prelude.{◌≡◌, ◌<◌, ◌^◌, List, length}, Coded.{Coded, coded_list, le_prop}}, proofs.Common.subst}
 use Rattle.p3_fs_core.specs.{declared.step.Kind.TheVariants.Protocol, StepCodeLaws.step_code, StepFits.AreProgramSteps}
 use Rattle.p3_fs_core.specs.{StepFitLaws.AreProgramSteps-prop, Steps.Step}
 use Rattle.p3_patterns.specs.{PatternGrammar.IsPattern, PatternSteps.PatternSteps}
 use base.Stored.{coded_via}
 
--- patterns with the same steps are one
+-- patterns with the same steps are equal
 pub PatternSteps-same : (x y : PatternSteps) → x.steps ≡ y.steps → x ≡ y
 PatternSteps-same x y e =
     let IsSame : List Step → Type 0 = λ (steps : List Step).
@@ -19,6 +19,6 @@ PatternSteps-same x y e =
     } in
     subst IsSame e own y.is_pattern y.few y.fit
 
--- how the logic stores a pattern: as its steps
+-- how the logic stores a pattern: as its list of steps
 abbrev pub pattern_steps_code : Coded PatternSteps
 pattern_steps_code = coded_via (coded_list step_code) (λ pattern. pattern.steps) PatternSteps-same

@@ -1,4 +1,4 @@
--- Laws of the text of steps: the alternate one tells lists of steps apart, but for the names of their types.
+-- Laws of the text of steps: the alternate text determines the steps, except for the names of their types.
 use Rattle.std.proofs.Common.{◌≡◌, ◌↔◌, ℕ, zero, suc, ◌+◌, ◌-◌, ◌*◌, ◌≤◌, ◌<◌, ◌^◌, List, [], ◌∷◌, ◌++◌, length, map}
 use Rattle.std.proofs.Common.{replicate, drop, codes, append_assoc, refl, sym, ap, ◌∙◌, lit<, lit≤, arith}
 use Rattle.std.{proofs.lemmas.List.length-map, specs.Fmt.decimal}
@@ -16,7 +16,7 @@ abbrev BeginsWord : List ℕ → Type 0
 BeginsWord [] = ⊥
 BeginsWord (c ∷ cs) = 65 ≤ c
 
--- spaces end where a word begins
+-- spaces end at the start of a word
 spaces-prefix_code : (m n : ℕ) (a b : List ℕ) → BeginsWord a → BeginsWord b
     → replicate m 32 ++ a ≡ replicate n 32 ++ b → a ≡ b
 spaces-prefix_code zero zero a b a_begins b_begins e = e
@@ -35,12 +35,12 @@ hierarchy-begins End p rest = lit≤ tt
 
 -- ---- steps
 
--- the numbers of steps of a program fit their types
+-- the numbers of a program's steps fit their types
 pub AllFitTypes-program : (steps : List Step) → AreProgramSteps steps → AllFitTypes steps
 AllFitTypes-program [] fit = tt
 AllFitTypes-program (s ∷ steps) fit = (fit.0.fits, AllFitTypes-program steps fit.1)
 
--- a step is read back from what is hashed of it, but for the name of its type
+-- the hashed text of a step determines the step, except for the name of its type
 pub alternate-prefix_code : (x y : Step) (a b : List ℕ) → FitsTypes x → FitsTypes y →
     alternate_text x ++ a ≡ alternate_text y ++ b → (without_type_name x ≡ without_type_name y) × (a ≡ b)
 alternate-prefix_code x y a b x_fits y_fits e =
@@ -56,7 +56,7 @@ alternate-prefix_code x y a b x_fits y_fits e =
 
 -- ---- lines
 
--- so is a line, at one position and with as many containers open
+-- a line determines its step too, at one position and with equally many open containers
 line-prefix_code : (digits position depth : ℕ) (x y : Step) (a b : List ℕ) → FitsTypes x → FitsTypes y →
     line alternate_text digits position (indentation x.hierarchy depth) x ++ a
     ≡ line alternate_text digits position (indentation y.hierarchy depth) y ++ b →
@@ -95,7 +95,7 @@ told_apart xs ys x_fit y_fit x_few y_few e =
     lines-prefix_code (length (decimal (length xs - 1))) 0 0 xs ys x_fit y_fit counts.0 (ap (drop 15) counts.1
     ∙ ap (λ count. lines alternate_text (length (decimal (count - 1))) 0 0 ys) (sym counts.0))
 
--- names of types make no difference
+-- names of types do not change the lines
 lines-without : (digits position depth : ℕ) (steps : List Step) →
     lines alternate_text digits position depth (map without_type_name steps)
     ≡ lines alternate_text digits position depth steps
@@ -107,8 +107,8 @@ lines-without digits position depth (s ∷ rest) =
 rendering-without : (steps : List Step) → hashed_text (map without_type_name steps) ≡ hashed_text steps
 rendering-without steps = simp (length-map, lines-without)
 
--- the alternate texts of two lists of steps are one where the steps are the same but for the names of their
--- types, and only there
+-- the alternate texts of two lists of steps are equal exactly where the steps are the same except for the
+-- names of their types
 pub rendering_injective : (xs ys : List Step) → AllFitTypes xs → AllFitTypes ys → length xs < 2 ^ 64 →
     length ys < 2 ^ 64 → (hashed_text xs ≡ hashed_text ys ↔ SameButTypeNames xs ys)
 rendering_injective xs ys x_fit y_fit x_few y_few = (

@@ -1,10 +1,10 @@
--- A walk over steps, up to the first one that may not stand where it does.
+-- A walk over steps, up to the first one that may not stand at its place.
 use Rattle.std.specs.Prelude.{ℕ, ◌<◌, ◌≤◌, List, length, map, take, slice_index_or}
 use Rattle.p3_fs_core.specs.{declared.interaction.Interaction.Interaction, Interactions.step_of}
 use Rattle.p3_patterns.specs.{PatternGrammar.MayFollow, OpenContainers.AreOpen}
 
--- so many of the steps some pattern begins with, and they leave these positions open; with the next one, if there is
--- one, none does
+-- some pattern begins with the walked steps, which leave these positions open; with the next step, if there is one,
+-- none does
 pub record WalksTo (steps : List Interaction) (walked : ℕ) (positions : List ℕ) : Type 0 where
   pub within : walked ≤ length steps
   pub opens : AreOpen (map step_of (take walked steps)) positions

@@ -1,7 +1,7 @@
-//! Patterns: which steps a protocol takes, before any of them is taken. They are recorded, printed, digested
-//! and played.
+//! Patterns: the steps of a protocol, fixed before any of them is taken. They are recorded, printed,
+//! digested and played.
 //!
-//! What is called a law is a function without effect whose contract a caller cites. The Rust crate has none.
+//! A law is a function without effect whose contract a caller cites. The Rust crate has none.
 #![tactic(auto)]
 
 mod comparison;

@@ -1,16 +1,16 @@
-//! What takes the steps of a protocol: a recorder or a player.
+//! The trait of recorders and players, which take the steps of a protocol.
 ghost use Rattle.std.specs.Prelude.{OnOk, IfErr};
 ghost use Rattle.p3_fs_core.specs.{Steps.{Step, marker_of}, Interactions.step_of};
 
 use p3_field_core::Named;
 use p3_fs_core::{Hierarchy, Interaction, Kind, Label, TranscriptError};
 
-/// What takes the steps of a protocol one by one: it records them, or it holds them against a pattern.
+/// Takes the steps of a protocol one by one: a recorder records them, and a player compares them with a pattern.
 ///
-/// One method, [`interact`](Pattern::interact), does it all; the others are that one for the openers and the
-/// closers of containers.
+/// The method [`interact`](Pattern::interact) takes every step; the others call it with the openers and closers of
+/// containers.
 ///
-/// The Rust crate's `Pattern`, which panics where a step is refused here.
+/// The Rust crate's `Pattern` panics where this trait refuses a step.
 pub trait Pattern {
     ghost use Rattle.p3_fs_core.specs.declared.error.TranscriptError.{TranscriptError};
 
@@ -20,22 +20,21 @@ pub trait Pattern {
     // What refusing a step makes of it, and with which error.
     ghost refuses: { Self → Step → TranscriptError → Self → Type 0 };
 
-    /// Gives up, and spends it. What was taken so far is not checked. The Rust crate takes it by reference.
+    /// Gives up and is spent, without a check of the steps taken. The Rust crate takes `self` by reference.
     fn abort(self);
 
-    /// Takes a step. It is refused where it may not come next, and no step is taken from then on.
+    /// Takes a step. A step that may not come next is refused, and then no further step is taken.
     ///
-    /// A recorder answers [`TranscriptError::MissingBegin`], [`TranscriptError::InvalidKind`] or
+    /// A recorder returns [`TranscriptError::MissingBegin`], [`TranscriptError::InvalidKind`] or
     /// [`TranscriptError::MismatchedBeginEnd`], and [`TranscriptError::OutOfMemory`] for a step that may come. A
-    /// player answers [`PatternError::NoMoreSteps`](p3_fs_core::PatternError::NoMoreSteps) or
-    /// [`PatternError::WrongStep`](p3_fs_core::PatternError::WrongStep). Each answers
-    /// [`PatternError::Finished`](p3_fs_core::PatternError::Finished) where it refused a step before. The steps that
-    /// were taken before stay.
+    /// player returns [`PatternError::NoMoreSteps`](p3_fs_core::PatternError::NoMoreSteps) or
+    /// [`PatternError::WrongStep`](p3_fs_core::PatternError::WrongStep). After a refused step both return
+    /// [`PatternError::Finished`](p3_fs_core::PatternError::Finished). The steps taken before stay.
     fn interact(&mut self, interaction: Interaction) -> Result<(), TranscriptError>
         ensures ok { OnOk result (takes self.old (step_of interaction) self.new) }
         ensures err { IfErr result (λ e. refuses self.old (step_of interaction) e self.new) };
 
-    /// Takes the opener of a container of the kind. `T` names the container for those who read its steps.
+    /// Takes the opener of a container of the kind. `T` names the container in the pattern's steps.
     ///
     /// The errors are those of [`interact`](Pattern::interact).
     fn begin<T: Named>(&mut self, label: Label, kind: Kind) -> Result<(), TranscriptError>

@@ -10,12 +10,12 @@ use p3_fs_core::{Interaction, PatternError, TranscriptError};
 use std::marker::Model;
 use std::rc::Rc;
 
-/// Holds the steps that are taken against a pattern: each must be the one that the pattern has next.
+/// Compares each step taken with a pattern: it has to be the pattern's next one.
 ///
-/// A player must be spent, by [`finalize`](PatternPlayer::finalize) or [`abort`](Pattern::abort). Once it
-/// refused a step it refuses all.
+/// A player must be spent, by [`finalize`](PatternPlayer::finalize) or [`abort`](Pattern::abort). After a refused
+/// step it refuses every step.
 ///
-/// The Rust crate's `PatternPlayer`, which holds an `Arc`, and panics where it is dropped unfinished.
+/// The Rust crate's `PatternPlayer` holds an `Arc`, and panics where it is dropped unfinished.
 #[derive(Debug)]
 pub struct PatternPlayer {
     pattern: Rc<InteractionPattern>,
@@ -38,7 +38,7 @@ impl Model for PatternPlayer {
 }
 
 impl PatternPlayer {
-    /// A player of which no step was taken yet.
+    /// Returns a player that has taken no step.
     pub fn new(pattern: Rc<InteractionPattern>) -> Self
         ensures { result ≡ record { pattern = pattern.value; position = 0; finished = false } }
     {
@@ -49,60 +49,60 @@ impl PatternPlayer {
         }
     }
 
-    /// The pattern that is played.
+    /// Returns the pattern that is played.
     pub fn pattern(&self) -> &InteractionPattern
         ensures { result.now ≡ self.now.pattern }
     {
         &self.pattern
     }
 
-    /// How many steps were taken.
+    /// Returns the number of steps taken.
     pub fn position(&self) -> usize
         ensures { result ≡ self.now.position }
     {
         self.position
     }
 
-    /// How many steps the pattern has.
+    /// Returns the number of steps in the pattern.
     pub fn len(&self) -> usize
         ensures { result ≡ length (steps_of self.now.pattern) }
     {
         self.pattern.len()
     }
 
-    /// The pattern has no steps.
+    /// Returns whether the pattern has no steps.
     pub fn is_empty(&self) -> bool
         ensures { IsTrue result ↔ steps_of self.now.pattern ≡ [] }
     {
         self.pattern.is_empty()
     }
 
-    /// How many steps of the pattern were not taken yet.
+    /// Returns the number of steps not taken yet.
     pub fn remaining(&self) -> usize
         ensures { self.now.position + result ≡ length (steps_of self.now.pattern) }
     {
         self.len() - self.position
     }
 
-    /// A step was refused, so none is taken any more. In the Rust crate that is so too once the player was finalized
-    /// or aborted.
+    /// Returns whether a step was refused, after which none is taken. In the Rust crate the result is also `true`
+    /// after `finalize` or `abort`.
     pub fn is_finalized(&self) -> bool
         ensures { result ≡ self.now.finished }
     {
         self.finished
     }
 
-    /// The step that the pattern has next, if it has one.
+    /// Returns the next step of the pattern, if there is one.
     pub fn next_interaction(&self) -> Option<&Interaction>
         ensures { option_map step_of (option_copied result) ≡ next_step self.now }
     {
         self.pattern.interactions().get(self.position)
     }
 
-    /// Spends the player. It answers `Ok` exactly where no step was refused and none is left.
+    /// Spends the player. The result is `Ok` exactly where no step was refused and none is left.
     ///
     /// Else the error is [`PatternError::Finished`] where a step was refused, and [`PatternError::Unplayed`] with the
-    /// next step where there is one. The player is spent then too. The Rust crate panics in place of both.
+    /// next step where one is left. The player is spent in both cases. The Rust crate panics in place of both.
     pub fn finalize(self) -> Result<(), TranscriptError>
         ensures ok { OnOk result (IsPlayed self) }
         ensures err { IfErr result

@@ -25,12 +25,12 @@ impl fmt::Display for InteractionPattern {
 }
 
 impl InteractionPattern {
-    /// The text of the pattern that is hashed, the same as `{:#}` prints. Below a header that counts the steps
-    /// it has a line for each: its position, in as many digits as the last one, two spaces for each container
-    /// around it, and the alternate text of the step, which says its type by its tag and not by its name.
+    /// Returns the text of the pattern that is hashed, as `{:#}` prints it. Below a header with the number of steps
+    /// each step has a line. The line has the step's position, with as many digits as the last one, two spaces for
+    /// each enclosing container, and the step's alternate text. That text has the tag of the type, and not its name.
     ///
     /// The one error is [`TranscriptError::OutOfMemory`]. The pattern stays as it is. Not in the Rust crate, where
-    /// `{:#}` alone prints it.
+    /// only `{:#}` prints this text.
     pub fn alternate(&self) -> Result<String, TranscriptError>
         ensures ok { IfOk result (λ text. string_bytes text ≡ hashed_text self.now.steps) }
         ensures err { IfErr result (λ e. e ≡ OutOfMemory) }
@@ -42,13 +42,13 @@ impl InteractionPattern {
         Ok(rendering.to_string(self.allocator())?)
     }
 
-    /// The digest of the pattern's alternate text, 32 bytes.
+    /// Returns the digest of the pattern's alternate text, 32 bytes.
     ///
-    /// Two patterns with the same steps, but for the names of their types, have the same text, and any other two
-    /// have different ones. So their digests differ too, unless `D` takes the two texts to one digest.
+    /// Two patterns have the same text exactly where their steps are the same except for the names of their types.
+    /// Where the texts differ, the digests differ too, unless `D` maps both texts to one digest.
     ///
-    /// The one error is [`TranscriptError::OutOfMemory`], where no memory is given for the text. The pattern stays as
-    /// it is. In the Rust crate it is Keccak-256, and answers no error.
+    /// The one error is [`TranscriptError::OutOfMemory`], where memory for the text is refused. The pattern stays as
+    /// it is. In the Rust crate the hash function is Keccak-256, and there is no error.
     pub fn pattern_hash<D: DigestHasher>(&self) -> Result<[u8; 32], TranscriptError>
         ensures digest { IfOk result (λ digest. digest ≡ D.digest_of (hashed_text self.now.steps)) }
         ensures err { IfErr result (λ e. e ≡ OutOfMemory) }
@@ -62,8 +62,8 @@ impl InteractionPattern {
     }
 }
 
-/// Two lists of steps have one alternate rendering exactly if they are the same but for the names of their types,
-/// whatever bytes their labels have. Of patterns that is so with no condition.
+/// Two lists of steps have one alternate rendering exactly if they are the same except for the names of their types.
+/// This holds whatever bytes their labels have. For patterns this holds with no condition.
 ///
 /// A law: the body is empty, and a caller cites a clause.
 #[tactic(auto, using(crate::specs::RenderingLaws::rendering_injective))]

@@ -22,14 +22,14 @@ use p3_fs_core::{
 use std::alloc::{AllocError, Global};
 use std::marker::Model;
 
-/// The steps of a whole protocol. Each opener has its closer, and each step is of a kind that the container
-/// around it allows.
+/// The steps of a whole protocol. Each opener has its closer, and each step is of a kind that the enclosing
+/// container allows.
 ///
-/// Contracts see its steps, wherever their texts lie, with the facts that they are a pattern, fewer than 2^64, and
-/// steps that a program can hold. So two patterns are one value exactly where they have the same steps. Comparisons,
-/// order and hash go by the list of the steps.
+/// Contracts see its steps, wherever their texts lie in memory. They also see that the steps form a pattern, are
+/// fewer than 2^64, and can stand in a program. So two patterns are equal exactly where they have the same steps.
+/// Comparison, order and hash use the list of the steps.
 ///
-/// The Rust crate's `InteractionPattern`.
+/// Corresponds to the Rust crate's `InteractionPattern`.
 #[derive(Debug, Drop)]
 pub struct InteractionPattern {
     interactions: Vec<Interaction>,
@@ -55,12 +55,12 @@ impl Model for InteractionPattern {
 }
 
 impl InteractionPattern {
-    /// The pattern of these steps.
+    /// Returns the pattern of these steps.
     ///
-    /// Steps that are no pattern are refused with their first fault: [`TranscriptError::MissingBegin`],
-    /// [`TranscriptError::InvalidKind`], [`TranscriptError::MismatchedBeginEnd`] or
-    /// [`TranscriptError::MissingEnd`]. The error is [`TranscriptError::OutOfMemory`] where no memory is given for
-    /// the positions of the containers that are open. The steps are gone then.
+    /// Steps that form no pattern are refused with their first fault: [`TranscriptError::MissingBegin`],
+    /// [`TranscriptError::InvalidKind`], [`TranscriptError::MismatchedBeginEnd`] or [`TranscriptError::MissingEnd`].
+    /// The error is [`TranscriptError::OutOfMemory`] where memory for the positions of the open containers is
+    /// refused. After an error the steps are dropped.
     pub fn new(interactions: Vec<Interaction>) -> Result<Self, TranscriptError>
         ensures ok { IfOk result (λ pattern. IsPatternOf pattern (map step_of interactions.items)) }
         ensures err { IfErr result
@@ -103,7 +103,7 @@ impl InteractionPattern {
         refuse_end(interactions, containers)
     }
 
-    /// The pattern of no steps. The Rust crate's `Default`.
+    /// Returns the pattern of no steps. In the Rust crate this is `Default`.
     pub fn empty(alloc: Global) -> Self
         ensures { steps_of result ≡ [] }
     {
@@ -112,21 +112,21 @@ impl InteractionPattern {
         }
     }
 
-    /// The steps, the first one first.
+    /// Returns the steps in order.
     pub fn interactions(&self) -> &[Interaction]
         ensures { map step_of result.now ≡ steps_of self.now }
     {
         &self.interactions
     }
 
-    /// How many steps there are.
+    /// Returns the number of steps.
     pub fn len(&self) -> usize
         ensures { result ≡ length (steps_of self.now) }
     {
         self.interactions.len()
     }
 
-    /// There are no steps.
+    /// Returns whether there are no steps.
     pub fn is_empty(&self) -> bool
         ensures { IsTrue result ↔ steps_of self.now ≡ [] }
     {
@@ -138,8 +138,8 @@ impl InteractionPattern {
         *self.interactions.allocator()
     }
 
-    /// Two patterns compare equal exactly where they are one, that is, where they have the same steps. Order and
-    /// hash agree with that, as they do of every type.
+    /// Two patterns compare equal exactly where they have the same steps. Order and hash agree with equality, as for
+    /// every type.
     ///
     /// A law: the body does nothing, and a caller cites the clause.
     #[tactic(auto, using(crate::proofs::PatternEquality::equal_patterns))]
@@ -149,9 +149,9 @@ impl InteractionPattern {
         Interaction::compared_by_parts();
     }
 
-    /// An equal pattern.
+    /// Returns an equal pattern.
     ///
-    /// The one error is [`TranscriptError::OutOfMemory`]. The Rust crate's `Clone`, which answers no error.
+    /// The one error is [`TranscriptError::OutOfMemory`]. The Rust crate's `Clone` returns no error.
     pub fn clone(&self) -> Result<Self, TranscriptError>
         ensures ok { IfOk result (λ pattern. pattern ≡ self.now) }
         ensures err { IfErr result (λ e. e ≡ error.OutOfMemory) }

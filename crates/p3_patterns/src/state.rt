@@ -14,12 +14,12 @@ use p3_fs_core::{Hierarchy, Interaction, Kind, Label, PatternError, TranscriptEr
 use std::alloc::{AllocError, Global};
 use std::marker::{Model, PhantomData};
 
-/// Records a pattern step by step, for a sponge of the alphabet `U`. Each step is checked as it comes.
+/// Records a pattern step by step, for a sponge of the alphabet `U`. Each step is checked when it comes.
 ///
-/// A recorder must be spent, by [`finalize`](PatternState::finalize) or [`abort`](Pattern::abort). Once it
-/// refused a step it refuses all.
+/// A recorder must be spent, by [`finalize`](PatternState::finalize) or [`abort`](Pattern::abort). After a refused
+/// step it refuses every step.
 ///
-/// The Rust crate's `PatternState`, which panics where it is dropped unfinished.
+/// The Rust crate's `PatternState` panics where it is dropped unfinished.
 #[derive_where(Debug)]
 pub struct PatternState<U> {
     interactions: Vec<Interaction>,
@@ -45,7 +45,7 @@ impl<U> Model for PatternState<U> {
 }
 
 impl<U> PatternState<U> {
-    /// A recorder that took no step yet.
+    /// Returns a recorder that has taken no step.
     pub fn new(alloc: Global) -> Self
         ensures { result ≡ record { steps = []; finished = false } }
     {
@@ -57,12 +57,12 @@ impl<U> PatternState<U> {
         }
     }
 
-    /// Spends the recorder, for the pattern of its steps. They are one exactly where no step was refused and
-    /// no container is open.
+    /// Spends the recorder and returns the pattern of its steps. The result is `Ok` exactly where no step was
+    /// refused and no container is open.
     ///
     /// Else the error is [`PatternError::Finished`] where a step was refused, and [`TranscriptError::MissingEnd`]
-    /// with the innermost opener that is still open. It takes no memory. The recorder and its steps are gone then.
-    /// The Rust crate panics in place of both.
+    /// with the innermost opener that is still open. This call takes no memory. After an error the recorder and
+    /// its steps are dropped. The Rust crate panics in place of both.
     pub fn finalize(self) -> Result<InteractionPattern, TranscriptError>
         ensures ok { IfOk result (λ pattern. (self.finished ≡ false)
             × (steps_of pattern ≡ self.steps) × IsPattern Kind.Protocol (steps_of pattern)) }

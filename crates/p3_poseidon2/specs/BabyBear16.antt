@@ -1,10 +1,10 @@
--- Poseidon2 over BabyBear of 16 cells, with the round constants that the generator of the papers gives.
+-- Poseidon2 over BabyBear with 16 cells, and the round constants of the papers' generator.
 use Rattle.std.specs.Prelude.{ℕ, List, [], ◌∷◌, map}
 use Rattle.p3_small_primes.specs.BabyBearResidues.{BabyBear, residues}
 use Rattle.p3_poseidon2.specs.Poseidon2.{permuted}
 
--- what the diagonal of M_I has more than 1: -2, 1, 2, 1/2, 3, 4, -1/2, -3, -4, 1/2^8, 1/4, 1/8, 1/2^27, -1/2^8,
--- -1/16, -1/2^27
+-- the diagonal of M_I minus 1: -2, 1, 2, 1/2, 3, 4, -1/2, -3, -4, 1/2^8, 1/4, 1/8, 1/2^27, -1/2^8, -1/16,
+-- -1/2^27
 abbrev pub diagonal : List ℕ
 diagonal =
     0x77ffffff ∷ 0x00000001 ∷ 0x00000002 ∷ 0x3c000001 ∷ 0x00000003 ∷ 0x00000004 ∷ 0x3c000000 ∷ 0x77fffffe ∷

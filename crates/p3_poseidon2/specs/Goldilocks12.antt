@@ -1,9 +1,9 @@
--- Poseidon2 over Goldilocks of 12 cells, with the round constants that the generator of the papers gives.
+-- Poseidon2 over Goldilocks with 12 cells, and the round constants of the papers' generator.
 use Rattle.std.specs.Prelude.{ℕ, List, [], ◌∷◌, map}
 use Rattle.p3_goldilocks.specs.{GoldilocksResidues.residues, declared.goldilocks.Goldilocks.Goldilocks}
 use Rattle.p3_poseidon2.specs.Poseidon2.{permuted}
 
--- what the diagonal of M_I has more than 1
+-- the diagonal of M_I minus 1
 abbrev pub diagonal : List ℕ
 diagonal =
     0xc3b6c08e23ba9300 ∷ 0xd84b5de94a324fb6 ∷ 0x0d0c371c5b35b84f ∷ 0x7964f570e7188037 ∷

@@ -1,9 +1,9 @@
--- Poseidon2 over Goldilocks of 8 cells, with the round constants that the generator of the papers gives.
+-- Poseidon2 over Goldilocks with 8 cells, and the round constants of the papers' generator.
 use Rattle.std.specs.Prelude.{ℕ, List, [], ◌∷◌, map}
 use Rattle.p3_goldilocks.specs.{GoldilocksResidues.residues, declared.goldilocks.Goldilocks.Goldilocks}
 use Rattle.p3_poseidon2.specs.Poseidon2.{permuted}
 
--- what the diagonal of M_I has more than 1
+-- the diagonal of M_I minus 1
 abbrev pub diagonal : List ℕ
 diagonal =
     0xa98811a1fed4e3a5 ∷ 0x1cc48b54f377e2a0 ∷ 0xe40cd4f6c5609a26 ∷ 0x11de79ebca97a4a3 ∷

@@ -1,10 +1,10 @@
--- Poseidon2 over KoalaBear of 16 cells, with the round constants that the generator of the papers gives.
+-- Poseidon2 over KoalaBear with 16 cells, and the round constants of the papers' generator.
 use Rattle.std.specs.Prelude.{ℕ, List, [], ◌∷◌, map}
 use Rattle.p3_small_primes.specs.KoalaBearResidues.{KoalaBear, residues}
 use Rattle.p3_poseidon2.specs.Poseidon2.{permuted}
 
--- what the diagonal of M_I has more than 1: -2, 1, 2, 1/2, 3, 4, -1/2, -3, -4, 1/2^8, 1/8, 1/2^24, -1/2^8, -1/8,
--- -1/16, -1/2^24
+-- the diagonal of M_I minus 1: -2, 1, 2, 1/2, 3, 4, -1/2, -3, -4, 1/2^8, 1/8, 1/2^24, -1/2^8, -1/8, -1/16,
+-- -1/2^24
 abbrev pub diagonal : List ℕ
 diagonal =
     0x7effffff ∷ 0x00000001 ∷ 0x00000002 ∷ 0x3f800001 ∷ 0x00000003 ∷ 0x00000004 ∷ 0x3f800000 ∷ 0x7efffffe ∷

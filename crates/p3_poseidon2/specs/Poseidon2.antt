@@ -1,6 +1,6 @@
--- Poseidon2 as a function on lists of cells, in the words of the paper "Poseidon2: A Faster Version of the Poseidon Hash
--- Function". A list has `width` cells, which is a multiple of 4; a matrix is given by its entries, which are numbers. The
--- constants are lists of elements, which `specs/BabyBear16.antt` and its like have.
+-- Poseidon2 as a function on lists of cells, in the words of the paper "Poseidon2: A Faster Version of the Poseidon
+-- Hash Function". A list has `width` cells, a multiple of 4, and a matrix is given by its entries, which are numbers.
+-- The constants are lists of elements; `specs/BabyBear16.antt` and the like have them.
 use Rattle.std.specs.Prelude.{ℕ, zero, suc, ◌+◌, ◌-◌, ◌*◌, ◌/◌, ◌%◌, nat_eq, if◌then◌else◌, List, [], ◌∷◌, map, slice_index, slice_index_or, slice_set}
 use Rattle.std.specs.List.{range_with_len}
 use Rattle.p3_field_core.specs.Residues.{Residues, sum_of, power_of}
@@ -30,11 +30,11 @@ m_4 i j = slice_index (2 ∷ 3 ∷ 1 ∷ 1 ∷ []) ((j + 4 - i) % 4)
 abbrev pub m_e : ℕ → ℕ → ℕ
 m_e i j = (if nat_eq (i / 4) (j / 4) then 2 else 1) * m_4 (i % 4) (j % 4)
 
--- M_I: 1 everywhere, and on the diagonal so much more than 1
+-- M_I: 1 everywhere, with this much more on the diagonal
 abbrev pub m_i : (ℕ → ℕ) → ℕ → ℕ → ℕ
 m_i more i j = if nat_eq i j then 1 + more i else 1
 
--- the S-box: a power of a cell with a constant added
+-- the S-box: a power of the sum of a cell and a constant
 abbrev pub s_box : {F : Type 0} → Residues F → ℕ → F → F → F
 s_box r degree x constant = power_of r (sum_of r x constant) degree
 
@@ -45,11 +45,11 @@ full_cell r degree constants cells i = s_box r degree (cell r cells i) (cell r c
 abbrev pub full_s_boxes : {F : Type 0} → Residues F → ℕ → ℕ → List F → List F → List F
 full_s_boxes r width degree constants cells = map (full_cell r degree constants cells) (range_with_len 0 width)
 
--- an external (full) round: a constant is added to each cell, each goes through the S-box, and then M_E
+-- an external (full) round: a constant is added to each cell, each cell goes through the S-box, and M_E follows
 abbrev pub external_round : {F : Type 0} → Residues F → ℕ → ℕ → List F → List F → List F
 external_round r width degree constants cells = times r width m_e (full_s_boxes r width degree constants cells)
 
--- an internal (partial) round: the same of the first cell alone, and then M_I
+-- an internal (partial) round: only the first cell gets a constant and goes through the S-box, and M_I follows
 abbrev pub internal_round : {F : Type 0} → Residues F → ℕ → ℕ → List F → F → List F → List F
 internal_round r width degree diagonal constant cells =
     times r width (m_i (λ i. r.number (cell r diagonal i)))
@@ -66,7 +66,7 @@ internal_rounds r width degree diagonal [] cells = cells
 internal_rounds r width degree diagonal (constant ∷ rest) cells =
     internal_rounds r width degree diagonal rest (internal_round r width degree diagonal constant cells)
 
--- the permutation: M_E, and then the first external rounds, the internal ones and the last external ones
+-- the permutation: M_E, the first external rounds, the internal rounds and the last external rounds
 abbrev pub permuted : {F : Type 0} → Residues F → ℕ → ℕ → List F → List (List F) → List F → List (List F) → List F → List F
 permuted r width degree diagonal initial internal terminal cells =
     external_rounds r width degree terminal

@@ -1,4 +1,4 @@
-//! BabyBear, 16 cells.
+//! Poseidon2 over BabyBear with 16 cells.
 ghost use Rattle.std.specs.Prelude.{◌≡◌};
 ghost use Rattle.p3_poseidon2.specs.Poseidon2.{permuted};
 ghost use Rattle.p3_small_primes.specs.BabyBearResidues.{residues};
@@ -11,9 +11,9 @@ use p3_lanes::{BabyBearLanes, LanePermutation};
 use p3_small_primes::BabyBear;
 use p3_symmetric::CryptographicPermutation;
 
-/// Poseidon2 over [`BabyBear`] of 16 cells: S-boxes of degree 7, 8 external rounds and 13 internal ones.
+/// Poseidon2 over [`BabyBear`] with 16 cells: S-boxes of degree 7, 8 external rounds and 13 internal ones.
 ///
-/// Meant to be Plonky3's `Poseidon2BabyBear<16>`.
+/// Intended to equal Plonky3's `Poseidon2BabyBear<16>`.
 pub type Poseidon2BabyBear16 = Poseidon2<BabyBear, 16, 7, 13>;
 
 // What the diagonal of the internal matrix has more than 1: -2, 1, 2, 1/2, 3, 4, -1/2, -3, -4, 1/2^8, 1/4, 1/8,
@@ -94,9 +94,9 @@ impl LanePermutation<BabyBear, 16> for Poseidon2<BabyBear, 16, 7, 13> {
     }
 }
 
-/// Poseidon2 over [`BabyBear`] of 16 cells, with the round constants that the generator of the papers gives.
+/// Returns Poseidon2 over [`BabyBear`] with 16 cells and the round constants of the papers' generator.
 ///
-/// Meant to be Plonky3's `default_babybear_poseidon2_16`.
+/// Intended to equal Plonky3's `default_babybear_poseidon2_16`.
 pub fn default_babybear_poseidon2_16() -> Poseidon2BabyBear16
     ensures { ⟦<Poseidon2BabyBear16 as CryptographicPermutation<[BabyBear; 16]>>⟧.permutation result
         ≡ table.permutation }

@@ -1,4 +1,4 @@
-//! BabyBear, 24 cells.
+//! Poseidon2 over BabyBear with 24 cells.
 ghost use Rattle.std.specs.Prelude.{◌≡◌};
 ghost use Rattle.p3_poseidon2.specs.Poseidon2.{permuted};
 ghost use Rattle.p3_small_primes.specs.BabyBearResidues.{residues};
@@ -11,9 +11,9 @@ use p3_lanes::{BabyBearLanes, LanePermutation};
 use p3_small_primes::BabyBear;
 use p3_symmetric::CryptographicPermutation;
 
-/// Poseidon2 over [`BabyBear`] of 24 cells: S-boxes of degree 7, 8 external rounds and 21 internal ones.
+/// Poseidon2 over [`BabyBear`] with 24 cells: S-boxes of degree 7, 8 external rounds and 21 internal ones.
 ///
-/// Meant to be Plonky3's `Poseidon2BabyBear<24>`.
+/// Intended to equal Plonky3's `Poseidon2BabyBear<24>`.
 pub type Poseidon2BabyBear24 = Poseidon2<BabyBear, 24, 7, 21>;
 
 // What the diagonal of the internal matrix has more than 1: -2, 1, 2, 1/2, 3, 4, -1/2, -3, -4, 1/2^8, 1/4, 1/8, 1/16,
@@ -104,9 +104,9 @@ impl LanePermutation<BabyBear, 24> for Poseidon2<BabyBear, 24, 7, 21> {
     }
 }
 
-/// Poseidon2 over [`BabyBear`] of 24 cells, with the round constants that the generator of the papers gives.
+/// Returns Poseidon2 over [`BabyBear`] with 24 cells and the round constants of the papers' generator.
 ///
-/// Meant to be Plonky3's `default_babybear_poseidon2_24`.
+/// Intended to equal Plonky3's `default_babybear_poseidon2_24`.
 pub fn default_babybear_poseidon2_24() -> Poseidon2BabyBear24
     ensures { ⟦<Poseidon2BabyBear24 as CryptographicPermutation<[BabyBear; 24]>>⟧.permutation result
         ≡ table.permutation }

@@ -1,4 +1,4 @@
-//! Goldilocks, 12 cells.
+//! Poseidon2 over Goldilocks with 12 cells.
 ghost use Rattle.std.specs.Prelude.{◌≡◌};
 ghost use Rattle.p3_poseidon2.specs.Poseidon2.{permuted};
 ghost use Rattle.p3_goldilocks.specs.GoldilocksResidues.{residues};
@@ -11,9 +11,9 @@ use p3_goldilocks::Goldilocks;
 use p3_lanes::{GoldilocksLanes, LanePermutation};
 use p3_symmetric::CryptographicPermutation;
 
-/// Poseidon2 over [`Goldilocks`] of 12 cells: S-boxes of degree 7, 8 external rounds and 22 internal ones.
+/// Poseidon2 over [`Goldilocks`] with 12 cells: S-boxes of degree 7, 8 external rounds and 22 internal ones.
 ///
-/// Meant to be Plonky3's `Poseidon2Goldilocks<12>`.
+/// Intended to equal Plonky3's `Poseidon2Goldilocks<12>`.
 pub type Poseidon2Goldilocks12 = Poseidon2<Goldilocks, 12, 7, 22>;
 
 // What the diagonal of the internal matrix has more than 1.
@@ -203,9 +203,9 @@ impl LanePermutation<Goldilocks, 12> for Poseidon2<Goldilocks, 12, 7, 22> {
     }
 }
 
-/// Poseidon2 over [`Goldilocks`] of 12 cells, with the round constants that the generator of the papers gives.
+/// Returns Poseidon2 over [`Goldilocks`] with 12 cells and the round constants of the papers' generator.
 ///
-/// Meant to be Plonky3's `default_goldilocks_poseidon2_12`.
+/// Intended to equal Plonky3's `default_goldilocks_poseidon2_12`.
 pub fn default_goldilocks_poseidon2_12() -> Poseidon2Goldilocks12
     ensures { ⟦<Poseidon2Goldilocks12 as CryptographicPermutation<[Goldilocks; 12]>>⟧.permutation result
         ≡ table.permutation }

@@ -1,4 +1,4 @@
-//! States in lanes of Goldilocks, permuted two by two.
+//! States in lanes of Goldilocks, permuted in pairs.
 ghost use Rattle.std.specs.Prelude.{◌≡◌, ℕ, ◌<◌, ◌^◌, map};
 ghost use Rattle.p3_lanes.specs.GoldilocksInLanes.{element_in};
 ghost use Rattle.p3_goldilocks.specs.GoldilocksResidues.{residues};

@@ -1,4 +1,4 @@
-//! KoalaBear, 16 cells.
+//! Poseidon2 over KoalaBear with 16 cells.
 ghost use Rattle.std.specs.Prelude.{◌≡◌};
 ghost use Rattle.p3_poseidon2.specs.Poseidon2.{permuted};
 ghost use Rattle.p3_small_primes.specs.KoalaBearResidues.{residues};
@@ -11,9 +11,9 @@ use p3_lanes::{KoalaBearLanes, LanePermutation};
 use p3_small_primes::KoalaBear;
 use p3_symmetric::CryptographicPermutation;
 
-/// Poseidon2 over [`KoalaBear`] of 16 cells: S-boxes of degree 3, 8 external rounds and 20 internal ones.
+/// Poseidon2 over [`KoalaBear`] with 16 cells: S-boxes of degree 3, 8 external rounds and 20 internal ones.
 ///
-/// Meant to be Plonky3's `Poseidon2KoalaBear<16>`.
+/// Intended to equal Plonky3's `Poseidon2KoalaBear<16>`.
 pub type Poseidon2KoalaBear16 = Poseidon2<KoalaBear, 16, 3, 20>;
 
 // What the diagonal of the internal matrix has more than 1: -2, 1, 2, 1/2, 3, 4, -1/2, -3, -4, 1/2^8, 1/8, 1/2^24,
@@ -95,9 +95,9 @@ impl LanePermutation<KoalaBear, 16> for Poseidon2<KoalaBear, 16, 3, 20> {
     }
 }
 
-/// Poseidon2 over [`KoalaBear`] of 16 cells, with the round constants that the generator of the papers gives.
+/// Returns Poseidon2 over [`KoalaBear`] with 16 cells and the round constants of the papers' generator.
 ///
-/// Meant to be Plonky3's `default_koalabear_poseidon2_16`.
+/// Intended to equal Plonky3's `default_koalabear_poseidon2_16`.
 pub fn default_koalabear_poseidon2_16() -> Poseidon2KoalaBear16
     ensures { ⟦<Poseidon2KoalaBear16 as CryptographicPermutation<[KoalaBear; 16]>>⟧.permutation result
         ≡ table.permutation }

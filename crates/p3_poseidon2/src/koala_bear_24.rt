@@ -1,4 +1,4 @@
-//! KoalaBear, 24 cells.
+//! Poseidon2 over KoalaBear with 24 cells.
 ghost use Rattle.std.specs.Prelude.{◌≡◌};
 ghost use Rattle.p3_poseidon2.specs.Poseidon2.{permuted};
 ghost use Rattle.p3_small_primes.specs.KoalaBearResidues.{residues};
@@ -11,9 +11,9 @@ use p3_lanes::{KoalaBearLanes, LanePermutation};
 use p3_small_primes::KoalaBear;
 use p3_symmetric::CryptographicPermutation;
 
-/// Poseidon2 over [`KoalaBear`] of 24 cells: S-boxes of degree 3, 8 external rounds and 23 internal ones.
+/// Poseidon2 over [`KoalaBear`] with 24 cells: S-boxes of degree 3, 8 external rounds and 23 internal ones.
 ///
-/// Meant to be Plonky3's `Poseidon2KoalaBear<24>`.
+/// Intended to equal Plonky3's `Poseidon2KoalaBear<24>`.
 pub type Poseidon2KoalaBear24 = Poseidon2<KoalaBear, 24, 3, 23>;
 
 // What the diagonal of the internal matrix has more than 1: -2, 1, 2, 1/2, 3, 4, -1/2, -3, -4, 1/2^8, 1/4, 1/8, 1/16,
@@ -104,9 +104,9 @@ impl LanePermutation<KoalaBear, 24> for Poseidon2<KoalaBear, 24, 3, 23> {
     }
 }
 
-/// Poseidon2 over [`KoalaBear`] of 24 cells, with the round constants that the generator of the papers gives.
+/// Returns Poseidon2 over [`KoalaBear`] with 24 cells and the round constants of the papers' generator.
 ///
-/// Meant to be Plonky3's `default_koalabear_poseidon2_24`.
+/// Intended to equal Plonky3's `default_koalabear_poseidon2_24`.
 pub fn default_koalabear_poseidon2_24() -> Poseidon2KoalaBear24
     ensures { ⟦<Poseidon2KoalaBear24 as CryptographicPermutation<[KoalaBear; 24]>>⟧.permutation result
         ≡ table.permutation }

@@ -1,9 +1,9 @@
-//! Poseidon2, a permutation of field elements, for challengers over cells: with 16 or 24 cells of BabyBear or KoalaBear, and
-//! with 8 or 12 of Goldilocks.
+//! Poseidon2, a permutation of field elements, for challengers over cells: 16 or 24 cells of BabyBear or KoalaBear, or
+//! 8 or 12 of Goldilocks.
 //!
-//! Each is proved to be the definition in `specs/Poseidon2.antt` with the tables that stand beside it, on one state and on
-//! states in lanes. That the tables are those of other libraries, no contract says: `docs/POSEIDON2.md` has what is known
-//! of each.
+//! Each permutation is proved equal to the definition in `specs/Poseidon2.antt` with the tables beside it, for one
+//! state and for states in lanes. No contract says that the tables are those of other libraries: `docs/POSEIDON2.md`
+//! states what is known of each.
 #![tactic(auto)]
 
 mod alone;

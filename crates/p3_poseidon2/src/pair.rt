@@ -1,4 +1,4 @@
-//! Two elements as a value of two lanes, for fields whose vectors cost more than they gain.
+//! Two elements as a value of two lanes, for fields whose vector operations cost more than they gain.
 ghost use Rattle.std.specs.Prelude.{◌≡◌, ℕ, ◌<◌};
 ghost use Rattle.p3_field_core.specs.Residues.{sum_of, difference_of, product_of};
 ghost use Rattle.p3_poseidon2.specs.Pairs.{in_pair, each-in-pair};
@@ -9,8 +9,8 @@ use std::ops::{Add, Mul, Sub};
 
 /// Two elements, one in each lane.
 ///
-/// Its product is a call, so that no loop over cells that has a product is made one of vectors: of numbers of 64 bits each
-/// product would be taken out of the vectors and put back. Between two calls the two products hide each other's latency.
+/// The product is a function call, so that loops over cells with products are not vectorized. With numbers of 64 bits
+/// each product would be moved out of the vectors and back. In a call the latencies of the two products overlap.
 #[derive(Clone, Copy)]
 pub(crate) struct Pair<F> {
     pub(crate) first: F,

@@ -1,4 +1,4 @@
-//! The permutation.
+//! The permutation Poseidon2.
 ghost use Rattle.std.specs.Prelude.{◌≡◌, ℕ, ◌<◌, ◌%◌, map, ⊤};
 ghost use Rattle.p3_poseidon2.specs.{Poseidon2.permuted, Layers.IsDegree};
 
@@ -8,13 +8,14 @@ use p3_field_core::PrimeCharacteristicRing;
 use p3_lanes::PackedValue;
 use std::alloc::AllocError;
 
-/// The permutation Poseidon2 of `WIDTH` cells of the field `F`: S-boxes of degree `DEGREE`, four external rounds, `INTERNAL`
-/// internal ones, and four external ones. It holds its constants, and is copied with them.
+/// The permutation Poseidon2 of `WIDTH` cells of the field `F`, with S-boxes of degree `DEGREE`. It has four external
+/// rounds, `INTERNAL` internal ones, and four external ones. It holds its constants, and a copy has them too.
 ///
-/// It permutes states of the sets that have an alias here, as [`Poseidon2BabyBear16`](crate::Poseidon2BabyBear16): those of
-/// the alias' default constants, or of [others](Poseidon2::new).
+/// It permutes states of the parameter sets that have an alias here, such as
+/// [`Poseidon2BabyBear16`](crate::Poseidon2BabyBear16). The constants are the alias' default ones or
+/// [others](Poseidon2::new).
 ///
-/// Meant to be Plonky3's `Poseidon2`, whose layers are type parameters.
+/// Intended to equal Plonky3's `Poseidon2`, whose layers are type parameters.
 #[derive(Debug)]
 pub struct Poseidon2<F, const WIDTH: usize, const DEGREE: u64, const INTERNAL: usize> {
     diagonal: [F; WIDTH],
@@ -46,10 +47,10 @@ impl<
     const DEGREE: u64,
     const INTERNAL: usize,
 > Poseidon2<F, WIDTH, DEGREE, INTERNAL> {
-    /// The permutation of these constants: of the first four external rounds, the internal ones and the last four external
-    /// ones. The internal matrix is 1 everywhere, and on the diagonal `diagonal` more.
+    /// Returns the permutation with these constants: of the first four external rounds, the internal rounds and the
+    /// last four external ones. The internal matrix is 1 everywhere, with `diagonal` added on the diagonal.
     ///
-    /// The width is a multiple of 4 and not 0, and the degree 3 or 7. That the matrix has an inverse is not asked.
+    /// The width is a positive multiple of 4, and the degree is 3 or 7. An inverse of the matrix is not required.
     pub fn new(
         diagonal: [F; WIDTH],
         initial: [[F; WIDTH]; 4],

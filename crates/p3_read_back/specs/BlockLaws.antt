@@ -1,20 +1,20 @@
--- States that have absorbed blocks of values, each over the image of the state before: where one such state tells its
--- block, all of them tell all values.
+-- States that have absorbed blocks of values, each over the image of the state before. If one such state determines
+-- its block, all of them determine all values.
 use Rattle.std.proofs.Common.{◌≡◌, ℕ, ◌≤◌, List, [], ◌∷◌, ◌++◌, length, sym, ap₂, subst, ◌∙◌}
 use Rattle.std.proofs.lemmas.List.{append_cancel_left}
 use Rattle.p3_challenger_core.specs.Segments.{Call, Run}
 use Rattle.p3_read_back.specs.Queries.{observed_values, ReadsBack, ReadsBackToDigest}
 
--- what is permuted where a block of at most so many values is absorbed over cells, and the permutation
+-- the input of the permutation for a block of bounded length over cells, and the permutation
 module _ {T C : Type 0} (permutation_input : C → List T → C) (permute : C → C) (most : ℕ) where
-  -- a state tells the block that was absorbed over known cells
+  -- a state determines the block that was absorbed over known cells
   abbrev pub TellsBlock : Type 0
   TellsBlock =
       (cells : C) (one other : List T) → length one ≤ most → length other ≤ most
       → permutation_input cells one ≡ permutation_input cells other → one ≡ other
 
-  -- values are the blocks that states have absorbed, the first over cells and each other over the image of the state
-  -- before, and then the rest
+  -- Values are the blocks that states have absorbed, followed by a rest. The first block is absorbed over cells,
+  -- and each later one over the image of the state before.
   abbrev pub AreRead : C → List C → List T → List T → Type 0
   AreRead cells [] values rest = values ≡ rest
   AreRead cells (state ∷ states) values rest =
@@ -22,7 +22,7 @@ module _ {T C : Type 0} (permutation_input : C → List T → C) (permute : C �
       × (values ≡ block ++ later) × AreRead (permute state) states later rest
 
   module _ (tells : TellsBlock) where
-    -- one list of values alone is read from states
+    -- states determine the list of values read from them
     pub one-reading : (states : List C) (cells : C) (values others rest : List T) → AreRead cells states values rest
         → AreRead cells states others rest → values ≡ others
     one-reading [] cells values others rest j k = j ∙ sym k
@@ -31,7 +31,7 @@ module _ {T C : Type 0} (permutation_input : C → List T → C) (permute : C �
         let later : j.1 ≡ k.1 = one-reading states (permute state) j.1 k.1 rest j.5 k.5 in
         j.4 ∙ ap₂ (λ xs ys. xs ++ ys) block later ∙ sym k.4
 
-    -- a challenger queries such states, from cells on with some values pending: so it reads back
+    -- a challenger that queries such states, from cells with pending values on, reads back
     module _ {A S : Type 0} (run : List (Call T) → Run A C S) (pending : S → List T) (cells : C) (before : List T) where
       pub reads_back-of_blocks :
           ((calls : List (Call T)) → AreRead cells (run calls).queries (before ++ observed_values calls)
@@ -46,7 +46,7 @@ module _ {T C : Type 0} (permutation_input : C → List T → C) (permute : C �
           (one-reading (run others).queries cells values (before ++ observed_values others) (pending (run others).after)
           same_ends (reads others))
 
-    -- so it does up to a digest, where nothing is left
+    -- such a challenger also reads back up to a digest, where nothing is left pending
     module _ {A D : Type 0} (run_to_digest : List (Call T) → Run A C D) (cells : C) (before : List T) where
       pub reads_back_to_digest-of_blocks :
           ((calls : List (Call T)) → AreRead cells (run_to_digest calls).queries (before ++ observed_values calls) [])

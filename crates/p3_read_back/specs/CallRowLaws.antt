@@ -1,4 +1,4 @@
--- Lemmas on lists of calls in a row: what they do, and what they observe.
+-- Lemmas on lists of calls in a row: their effects and the values that they observe.
 use Rattle.std.proofs.Common.{◌≡◌, ℕ, zero, suc, List, [], ◌∷◌, ◌++◌, map, replicate, refl, ap, ◌∙◌, sym, append_assoc}
 use Rattle.p3_challenger_core.specs.Segments.{Call, observe, observe_empty_array, draw, Run, run_before, ByCalls}
 use Rattle.p3_challenger_core.specs.Segments.{run_calls}
@@ -15,7 +15,7 @@ module _ {T A M D S : Type 0} (by : ByCalls T A M D S) where
         after = others.after;
       }
 
-  -- calls and then others
+  -- calls followed by others
   pub run_calls-append : (s : S) (calls others : List (Call T))
       → run_calls by s (calls ++ others)
       ≡ (let run = run_calls by s calls in run_before run (run_calls by run.after others))
@@ -26,7 +26,7 @@ module _ {T A M D S : Type 0} (by : ByCalls T A M D S) where
       ap (run_before first) (run_calls-append first.after calls others)
       ∙ call_before first rest (run_calls by rest.after others)
 
--- what calls and then others observe
+-- the values that calls observe, followed by those of other calls
 pub observed_values-append : {T : Type 0} (calls others : List (Call T))
     → observed_values (calls ++ others) ≡ observed_values calls ++ observed_values others
 observed_values-append [] others = refl
@@ -34,7 +34,7 @@ observed_values-append (observe x ∷ calls) others = ap (λ xs. x ∷ xs) (obse
 observed_values-append (observe_empty_array ∷ calls) others = observed_values-append calls others
 observed_values-append (draw ∷ calls) others = observed_values-append calls others
 
--- values in a row observe themselves
+-- observing values in a row observes these values
 pub observed_values-observes : {T : Type 0} (values : List T) → observed_values (map observe values) ≡ values
 observed_values-observes [] = refl
 observed_values-observes (x ∷ xs) = ap (λ ys. x ∷ ys) (observed_values-observes xs)

@@ -1,9 +1,9 @@
--- Lemmas on what is read back.
+-- Lemmas on values that queries determine.
 use Rattle.std.proofs.Common.{◌≡◌, ℕ, suc, ◌⊎◌, inl, inr, List, [], ◌∷◌, ◌++◌, length, refl, ap, ap₂}
 use Rattle.std.proofs.{Common.{length-append, arith}, lemmas.Bool.Decides.eqb_tells}
 use Rattle.p3_read_back.specs.Queries.{CollideAtSomePlace, Decides}
 
--- of two numbers it can be decided, and so of two bytes
+-- equality of two numbers can be decided, and so that of two bytes
 pub number-decides : Decides ℕ
 number-decides x y =
     elim (eqb_tells x y) [
@@ -11,7 +11,7 @@ number-decides x y =
       | inr (unequal, differ) ↦ inr differ
     ]
 
--- of two lists it can be decided where it can of their values
+-- equality of two lists can be decided if that of their values can
 pub list-decides : {T : Type 0} → Decides T → Decides (List T)
 list-decides values [] [] = inl refl
 list-decides values [] (y ∷ ys) = inr (λ e. cc)
@@ -26,7 +26,7 @@ list-decides values (x ∷ xs) (y ∷ ys) =
       | inr differ ↦ inr (λ e. let heads : x ≡ y = cc in differ heads)
     ]
 
--- two lists that are one with an element after each are told, and so are these elements
+-- if two lists with an element after each are equal, so are the lists and the elements
 pub last-told : {M : Type 0} (ms ns : List M) (m n : M) → ms ++ m ∷ [] ≡ ns ++ n ∷ [] → (ms ≡ ns) × (m ≡ n)
 last-told [] [] m n e = let same : m ≡ n = cc in (refl, same)
 last-told [] (first ∷ ns) m n e = absurd (omega (arith, length-append ns (n ∷ []), ap length e))
@@ -38,12 +38,12 @@ last-told (one ∷ ms) (other ∷ ns) m n e =
     (ap₂ (λ x xs. x ∷ xs) first told.0, told.1)
 
 module _ {M : Type 0} (Collide : M → M → Type 0) where
-  -- two that stand first collide
+  -- the first two collide
   pub collide-first : (m n : M) (ms ns : List M) → Collide m n → CollideAtSomePlace Collide (m ∷ ms) (n ∷ ns)
   collide-first m n ms ns collision =
       record { place = 0; one = m; other = n; one_is = refl; other_is = refl; collision = collision }
 
-  -- two collide later
+  -- two later ones collide
   pub collide-later : (m n : M) (ms ns : List M) → CollideAtSomePlace Collide ms ns
       → CollideAtSomePlace Collide (m ∷ ms) (n ∷ ns)
   collide-later m n ms ns found =

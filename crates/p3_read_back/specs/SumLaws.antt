@@ -1,4 +1,4 @@
--- A count that is added to an element is told by the sum, where it is below the order.
+-- A sum determines the count below the order that was added to an element.
 use Rattle.std.proofs.Common.{◌≡◌, ℕ, ◌<◌, ◌≤◌, ◌+◌, ◌-◌, ◌%◌, ◌⊎◌, inl, inr, sym, ap, ◌∙◌, add-zero, arith}
 use Rattle.std.proofs.{Math.Nat.{add-mod_left, mod-eq_of_lt}, lemmas.Bool.cases_lt, lemmas.Bool.Decides.eqb_tells}
 use Rattle.p3_field_core.specs.{Residues.{Residues, IsResidues, plus}, ResidueLaws.{number_of-below, number-injective}}
@@ -16,7 +16,7 @@ below_two x m h =
           inr (there, over)
     ]
 
--- where two sums have one remainder, the one number is the other and the difference of what was added
+-- if two sums have one remainder, the one number is the other plus the difference of the summands
 difference-told : (a b i j m : ℕ) → a < m → b < m → i < m → j ≤ i → (a + i) % m ≡ (b + j) % m → (a + (i - j)) % m ≡ b
 difference-told a b i j m a_below b_below i_below less same =
     elim (below_two (a + i) m (omega arith)) as (λ _. (a + (i - j)) % m ≡ b) [
@@ -36,7 +36,7 @@ difference-told a b i j m a_below b_below i_below less same =
           ]
     ]
 
--- what was added is told by the sum
+-- the sum determines the summand
 added-told : (a i j m : ℕ) → a < m → i < m → j ≤ i → (a + i) % m ≡ (a + j) % m → i ≡ j
 added-told a i j m a_below i_below less same =
     let back : (a + (i - j)) % m ≡ a = difference-told a a i j m a_below a_below i_below less same in
@@ -46,7 +46,7 @@ added-told a i j m a_below i_below less same =
     ]
 
 module _ {F : Type 0} (r : Residues F) (laws : IsResidues r) where
-  -- of two elements it can be decided, by their numbers
+  -- equality of two elements can be decided by their numbers
   pub element-decides : Decides F
   element-decides x y =
       elim (eqb_tells (r.number x) (r.number y)) [
@@ -59,13 +59,13 @@ module _ {F : Type 0} (r : Residues F) (laws : IsResidues r) where
       laws.number_of (r.number x + r.number (r.of n))
       ∙ ap (λ k. (r.number x + k) % r.order) (number_of-below r laws n below)
 
-  -- nothing added
+  -- adding 0 changes nothing
   pub plus-zero : (x : F) → 0 < r.order → plus r x 0 ≡ x
   plus-zero x some =
       ap (λ k. r.of (r.number x + k)) (number_of-below r laws 0 some)
       ∙ ap r.of (add-zero (r.number x)) ∙ laws.of_number x
 
-  -- the counts that were added to one element, by their sums
+  -- the sums determine the counts that were added to one element
   pub counts-told : (x : F) (i j : ℕ) → i < r.order → j < r.order → plus r x i ≡ plus r x j → i ≡ j
   counts-told x i j i_below j_below e =
       let same : (r.number x + i) % r.order ≡ (r.number x + j) % r.order =
@@ -75,7 +75,7 @@ module _ {F : Type 0} (r : Residues F) (laws : IsResidues r) where
         | inr over ↦ added-told (r.number x) i j r.order (laws.below x) i_below over same
       ]
 
-  -- where two sums are equal, the one element is the other and the difference of the counts
+  -- if two sums are equal, the one element is the other plus the difference of the counts
   pub difference-of_sums : (x y : F) (i j : ℕ) → i < r.order → j ≤ i → plus r x i ≡ plus r y j → plus r x (i - j) ≡ y
   difference-of_sums x y i j i_below less e =
       let j_below : j < r.order = omega (arith, i_below, less) in

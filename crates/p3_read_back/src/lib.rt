@@ -1,3 +1,3 @@
-//! What is read back from what a challenger queries: definitions that the challengers share, and lemmas on them.
-//! This crate has no code of its own.
+//! Definitions and lemmas, shared by the challengers, on values that a challenger's queries determine. This
+//! crate has no code of its own.
 #![tactic(auto)]

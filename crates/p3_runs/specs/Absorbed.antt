@@ -1,8 +1,8 @@
 -- What a step of a run absorbs: field values as lists of coefficients, byte strings as bytes.
 use Rattle.std.specs.Prelude.{ℕ, zero, suc, List, [], ◌∷◌}
 
--- nothing; bytes; elements of an algebra, each as its list of coefficients; a value that the challenger alone knows; the
--- witness of at least one bit
+-- nothing; bytes; elements of an algebra, each as its list of coefficients; an opaque value; or the witness of a check
+-- of at least one bit
 pub data Absorbed (F O : Type 0) : Type 0 where
   Nothing : Absorbed F O
   Bytes : List ℕ → Absorbed F O
@@ -10,7 +10,7 @@ pub data Absorbed (F O : Type 0) : Type 0 where
   Own : O → Absorbed F O
   Witness : F → Absorbed F O
 
--- the witness, where its check is of at least one bit
+-- the witness, if its check has at least one bit
 abbrev pub witness_of : {F O : Type 0} → ℕ → F → Absorbed F O
 witness_of zero x = Nothing
 witness_of (suc more) x = Witness x

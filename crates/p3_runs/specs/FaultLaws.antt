@@ -1,4 +1,4 @@
--- Where a script is refused for anything but being out of memory, that is one fault: at one position, for one reason.
+-- Apart from out of memory, a script is refused for one fault: at one position, for one reason.
 use Rattle.std.proofs.Common.{◌≡◌, ℕ, List, [], ◌∷◌, ◌++◌, ◌⊎◌, Option, Some, None, inl, inr, refl, sym, ap, ◌∙◌, subst}
 use Rattle.std.proofs.Common.{length, false, true, slice_get}
 use Rattle.p3_challenger_core.specs.declared.error.ChallengerError.TheVariants.{TooLong}
@@ -18,7 +18,7 @@ start-refusal L (Challenger TooLong) h other = refl
 start-refusal L OutOfMemory h other = absurd (other refl)
 start-refusal L _ h other = absurd h
 
--- why the end is refused: the step that is left, or that bytes are
+-- why the end is refused: a step is left, or bytes are
 abbrev refusal_at_end : Option Step → Refusal
 refusal_at_end None = bad_proof_shape trailing_bytes
 refusal_at_end (Some s) = pattern_error (Unplayed s)
@@ -33,7 +33,7 @@ end-refusal v (BadProofShape reason) going h =
     rw past (ap bad_proof_shape h.2)
 end-refusal v _ going h = absurd h
 
--- what refuses a prover the end would refuse it a verifier
+-- an error that refuses the end to a prover would refuse it to a verifier
 pub end-read : {S : Type 0} (v : Driving S) (e : TranscriptError) →
     IsPatternError (λ m. FaultOfPlayEnd v.transcript.playing (pattern_error_of m)) e → RefusesEnd v e
 end-read v (Pattern e) h = h
@@ -45,7 +45,7 @@ pub record SamePlace {A : Type 0} (xs : List A) (x : A) (ys : List A) (y : A) : 
   pub before : ys ≡ xs
   pub here : y ≡ x
 
--- the second list goes on with the element after the first
+-- the second list continues with the element after the first
 pub record GoesPast {A : Type 0} (xs : List A) (x : A) (ys : List A) : Type 0 where
   pub between : List A
   pub split : ys ≡ xs ++ (x ∷ between)
@@ -73,7 +73,7 @@ module _ {A : Type 0} (x y : A) (ls ms : List A) where
 -- ---- one fault
 
 module _ {X : Type 0} (steps : List X) (StopsAt : List X → X → TranscriptError → Type 0) where
-  -- a side stops at a step of the list, after those before it
+  -- a side stops at a step of the list, after the steps before it
   pub record Stops (position : ℕ) (e : TranscriptError) : Type 0 where
     pub before : List X
     pub step : X
@@ -109,7 +109,7 @@ module _ (IsTooLong : Type 0) (AtStep AtEnd : ℕ → TranscriptError → Type 0
   later-one p q e f (inr r) (inl t) other another = absurd (another (apart q p f e t r))
   later-one p q e f (inr r) (inr t) other another = ends p q e f r t other another
 
-  -- after a seed that is too long nothing comes
+  -- nothing follows a seed that is too long
   later-short : (p : ℕ) (e : TranscriptError) → AtStep p e ⊎ AtEnd p e → IsTooLong → ⊥
   later-short p e (inl r) long = short_step p e r long
   later-short p e (inr r) long = short_end p e r long

@@ -32,7 +32,7 @@ pub witnesses-split : {F EF : Type 0} (w : Option F) (xs ys : List F) → xs ≡
 witnesses-split None xs ys h = ap all_witnesses h
 witnesses-split (Some x) xs ys h = ap all_witnesses h
 
--- a caller carries as many witnesses to a step as it has
+-- a caller carries as many witnesses to a step as the step has
 as_many : {F : Type 0} (place : Place) (w : Option F) → IsCarriedTo place w →
     length (if_carried place (tt {0})) ≡ length (one_of w)
 as_many Carried None h = absurd (cc)
@@ -47,7 +47,7 @@ pub take_all : {A : Type 0} (xs : List A) → take (length xs) xs ≡ xs
 take_all [] = refl
 take_all (x ∷ xs) = ap (λ l. x ∷ l) (take_all xs)
 
--- a driver by its parts
+-- a driver with these parts
 parts : {S : Type 0} (d : Driving S) (s : S) (p : Playing) (bytes : List ℕ) → d.transcript.challenger ≡ s →
     d.transcript.playing ≡ p → d.bytes ≡ bytes →
     d ≡ record { transcript = record { challenger = s; playing = p }; bytes = bytes }
@@ -55,8 +55,8 @@ parts d s p bytes challenger playing left = λ i.
     record { transcript = record { challenger = challenger i; playing = playing i }; bytes = left i }
 
 module _ {X S Symbol I F EF O Ac U D : Type 0} (rules : Rules S Symbol I F EF O Ac) (play : X → Play S Symbol F EF O) where
-  -- The first i steps were played with these values, and j of the carried witnesses were used: the bytes that were read,
-  -- what was received and what was drawn are those of this front, and the driver stands after it.
+  -- The first i steps were played with these values, and j of the carried witnesses were used. The bytes read, the
+  -- values received and the challenges drawn are those of this prefix, and the driver stands after it.
   pub record Follows (script : Run X F EF S U D) (bytes : List ℕ) (carried : List F) (i j : ℕ) (now : Driving S)
       (received : List (Value F EF)) (drawn : List (Challenge F EF)) : Type 0 where
     pub before : List X
@@ -92,9 +92,9 @@ module _ {X S Symbol I F EF O Ac U D : Type 0} (rules : Rules S Symbol I F EF O 
         drawn_is = refl;
       }
 
-  -- ---- a step more
+  -- ---- one more step
 
-  -- the driver stands after a front, and the step is played with this value
+  -- the driver stands after a prefix, and the step is played with this value
   module _ (script : Run X F EF S U D) (before : List X) (values : List (Value F EF)) (x : X) (v : Value F EF)
       (bytes : List ℕ) (here there : Driving S) (t : Option (Challenge F EF))
       (finished : IsFinished rules play (with_steps script before values))
@@ -197,7 +197,7 @@ module _ {X S Symbol I F EF O Ac U D : Type 0} (rules : Rules S Symbol I F EF O 
 
   -- ---- all steps were played
 
-  -- what is left of a list past its end
+  -- the rest of a list past its end
   module _ (script : Run X F EF S U D) (bytes : List ℕ) (carried : List F) (i j : ℕ) (now : Driving S)
       (received : List (Value F EF)) (drawn : List (Challenge F EF)) (past : length script.steps ≤ i)
       (f : Follows script bytes carried i j now received drawn) where

@@ -1,4 +1,4 @@
--- The steps of a finished front of a script are the first ones of its pattern.
+-- The steps of a finished prefix of a script are the first steps of its pattern.
 use Rattle.std.proofs.Common.{◌≡◌, ℕ, suc, zero, List, [], ◌∷◌, ◌++◌, Some, None, refl, length, take, slice_get, map}
 use Rattle.p3_fs_core.specs.{StepFits.{FitsLength, AreProgramSteps}, Steps.Step}
 use Rattle.p3_domain_separator.specs.SeparatorSeed.{pattern_of}
@@ -22,7 +22,7 @@ get-of_take [] (suc n) k y h = absurd (cc)
 get-of_take (x ∷ xs) (suc n) zero y h = h
 get-of_take (x ∷ xs) (suc n) (suc k) y h = get-of_take xs n k y h
 
--- ---- what holds of each step
+-- ---- facts of each step
 
 program-take : (xs : List Step) (n : ℕ) → AreProgramSteps xs → AreProgramSteps (take n xs)
 program-take xs zero h = tt
@@ -45,17 +45,17 @@ module _ {X S Symbol F EF O : Type 0} (play : X → Play S Symbol F EF O) where
   no_values-left [] s h = refl
   no_values-left (v ∷ more) s h = absurd h
 
--- ---- a finished front
+-- ---- a finished prefix
 
 module _ {X S Symbol I F EF O Ac U D : Type 0} (rules : Rules S Symbol I F EF O Ac) (play : X → Play S Symbol F EF O)
     (script : Run X F EF S U D) where
-  -- its steps fit their types
+  -- the steps of a finished prefix fit their types
   pub front-fits : (front : List X) (values : List (Value F EF)) →
       IsFinished rules play (with_steps script front values) → AreProgramSteps (interactions play front)
   front-fits front values finished =
       rw finished.in_pattern (program-take (pattern script) (length front) (pattern_of script.separator).fit)
 
-  -- and each is the next one of the pattern at its place
+  -- each step of a finished prefix is the next one of the pattern at its place
   pub front-next : (front : List X) (x : X) (later : List X) (values : List (Value F EF)) →
       IsFinished rules play (with_steps script (front ++ (x ∷ later)) values) →
       slice_get (pattern script) (length front) ≡ Some (play x).interaction

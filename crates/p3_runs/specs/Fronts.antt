@@ -1,4 +1,4 @@
--- A run of a script under a separator, or a front of one: its first steps.
+-- A run of a script under a separator, or a prefix of one: its first steps.
 use Rattle.std.specs.Prelude.{◌≡◌, ℕ, List, ◌++◌, length, take, flat_map}
 use Rattle.p3_challenger_core.specs.Observation.{observed_all}
 use Rattle.p3_fs_core.specs.Steps.{Step}
@@ -7,7 +7,7 @@ use Rattle.p3_domain_separator.specs.declared.domain_separator.DomainSeparator.{
 use Rattle.p3_runs.specs.{Absorbed.Absorbed, Plays.Play, Rules.Rules, Values.{Value, Challenge}}
 use Rattle.p3_runs.specs.Runs as runs
 
--- the state of a challenger, a separator, and steps with their values, of which one stands at each step
+-- the state of a challenger, a separator, and steps, each with its value
 pub record Run (X F EF S U D : Type 0) : Type 0 where
   pub challenger : S
   pub separator : DomainSeparator U D
@@ -26,12 +26,12 @@ module _ {X S Symbol I F EF O Ac U D : Type 0} (rules : Rules S Symbol I F EF O 
   abbrev pub seeded : Run X F EF S U D → S
   seeded run = observed_all rules.alphabet.item.observed run.challenger (rules.alphabet.items (seed run))
 
-  -- what the challenger is fed: the seed's symbols, and then each step's
+  -- the symbols fed to the challenger: those of the seed, followed by those of each step
   abbrev pub symbols : Run X F EF S U D → List Symbol
   symbols run =
       flat_map rules.alphabet.item.symbols (rules.alphabet.items (seed run)) ++ runs.symbols play run.steps run.values
 
-  -- the bytes of the proof, the challenges, the final challenger, and what is absorbed at each step
+  -- the bytes of the proof, the challenges, the final challenger, and what each step absorbs
   abbrev pub wire : Run X F EF S U D → List ℕ
   wire run = runs.wires play run.steps run.values
 
@@ -44,8 +44,8 @@ module _ {X S Symbol I F EF O Ac U D : Type 0} (rules : Rules S Symbol I F EF O 
   abbrev pub absorbed : Run X F EF S U D → List (Absorbed F O)
   absorbed run = runs.absorbed play run.steps run.values
 
-  -- The steps are the first ones of the pattern, and a value that fits stands at each of them. The seed and the values
-  -- are not too long for the alphabet, no draw meets a limit, and each witness passes.
+  -- The steps are the first ones of the pattern, each with a value that fits. The seed and the values are not too long
+  -- for the alphabet, no draw meets a limit, and each witness passes.
   pub record IsFinished (run : Run X F EF S U D) : Type 0 where
     pub in_pattern : runs.interactions play run.steps ≡ take (length run.steps) (pattern run)
     pub seed_fits : rules.alphabet.is_too_long (length (seed run)) → ⊥
@@ -55,6 +55,6 @@ module _ {X S Symbol I F EF O Ac U D : Type 0} (rules : Rules S Symbol I F EF O 
   abbrev pub IsWhole : Run X F EF S U D → Type 0
   IsWhole run = runs.interactions play run.steps ≡ pattern run
 
-  -- each witness that a prover finds is the least one that passes there
+  -- each witness that a prover finds is the least one that passes
   abbrev pub AreLeast : Run X F EF S U D → Type 0
   AreLeast run = runs.AreChosen play run.steps run.values (seeded run)

@@ -1,4 +1,5 @@
--- Bytes and carried witnesses have one run; and where a verifier refuses, for anything but being out of memory, they have none.
+-- Bytes and carried witnesses have at most one run. Bytes that a verifier refuses, except when out of memory, have
+-- none.
 use Rattle.std.proofs.Common.{◌≡◌, ℕ, List, [], refl, sym, ap, ◌∙◌, subst, append-nil, length, inl, inr}
 use Rattle.std.proofs.lemmas.List.{length-map}
 use Rattle.p3_fs_core.specs.{StepFits.FitsLength, declared.error.TranscriptError.TranscriptError}
@@ -22,7 +23,7 @@ module _ {X S Symbol I F EF O Ac U D : Type 0} (rules : Rules S Symbol I F EF O 
           carries = rw append-nil p.carries;
         }
 
-    -- what goes on from a front of whole steps
+    -- a continuation of a prefix of whole steps
     pub one-run : (others : List (Value F EF)) →
         IsProof rules play (with_steps script script.steps others) bytes carried → others ≡ values
     one-run others other =
@@ -65,7 +66,7 @@ module _ {X S Symbol I F EF O Ac U D : Type 0} (rules : Rules S Symbol I F EF O 
           ]
         ]
 
-    -- a refusal, with what it tells
+  -- a refusal, with its consequences
     pub refused-so : (script : Run X F EF S U D) (bytes : List ℕ) (carried : List F) (position : ℕ)
         (e : TranscriptError) → AreAdmitted play script.steps →
         RefusesProof rules play sides script bytes carried position e →

@@ -1,4 +1,4 @@
--- What a step of a script means, computed from the step: few shapes for all kinds of steps.
+-- The meaning of a script's step, computed from the step by a few shapes for all kinds of steps.
 use Rattle.std.specs.{Prelude.{◌≡◌, ℕ, ◌≤◌, List, [], length, Option, Some, None}, Option.option_map}
 use Rattle.p3_fs_core.specs.{Encoding.Encoding, Steps.Step}
 use Rattle.p3_driver_core.specs.{Effects.{Effect, untouched}, Transcripts.Meaning}
@@ -6,17 +6,18 @@ use Rattle.p3_driver_core.specs.Working.{Work, checking}
 use Rattle.p3_grinding.specs.Checks.{IsLeast}
 use Rattle.p3_runs.specs.{Absorbed.{Absorbed, Nothing}, Values.{witness_in, Challenge, IsNothing, Value}}
 
--- where the value of a step stands: it has none; the prover is handed it and the proof carries it; it is a witness,
--- which the prover finds, and the proof carries it; or it is a witness, which the prover finds, and the caller carries it
+-- Where the value of a step stands. There is none, the prover is handed it and the proof carries it, or it is a witness
+-- that the prover finds. A witness is carried by the proof or by the caller.
 pub data Place : Type 0 where
   Nowhere : Place
   Sent : Place
   Found : Place
   Carried : Place
 
--- What a step means: what the pattern must have next; the condition under which it may be played; where its value
--- stands; what a prover may be handed for it, and what it chooses itself; the values that fit the step; and, of each,
--- its bytes in the proof, what is done to the challenger, of which a challenge may come, and what is absorbed.
+-- The meaning of a step. It has the pattern's next step, the condition under which the step may be played, the place of
+-- its value, and the values that fit. For each value it has the bytes in the proof, the effect on the challenger with a
+-- possible challenge, and what is absorbed. Of the prover it has the values that it may be handed, and those that it
+-- may choose itself.
 pub record Play (S Symbol F EF O : Type 0) : Type 1 where
   pub interaction : Step
   pub admitted : Type 0
@@ -33,7 +34,7 @@ abbrev pub meaning : {S Symbol F EF O : Type 0} → Play S Symbol F EF O → Val
     Meaning S Symbol (Option (Challenge F EF))
 meaning play v = record { interaction = play.interaction; effect = play.effect v; wire = play.wire v }
 
--- the same effect, and of what it gives this comes
+-- the same effect, with a function of its result
 abbrev pub giving : {S Symbol A T : Type 0} → (A → T) → Effect S Symbol A → Effect S Symbol T
 giving f e = record {
   symbols = e.symbols;
@@ -46,7 +47,7 @@ giving f e = record {
 abbrev pub no_challenge : {F EF A : Type 0} → A → Option (Challenge F EF)
 no_challenge x = None
 
--- the step, which may be played under this condition alone
+-- the step, which may be played only under this condition
 abbrev pub only_if : {S Symbol F EF O : Type 0} → Type 0 → Play S Symbol F EF O → Play S Symbol F EF O
 only_if condition play = record play { admitted = condition }
 
@@ -61,7 +62,7 @@ NoChoice s v = Unit {0}
 
 -- ---- the shapes
 
--- nothing stands in the proof: the step has this effect
+-- the proof has no bytes of the step, which has this effect
 abbrev pub known_with : {S Symbol F EF O A : Type 0} → Step → (Value F EF → Type 0) → (A → Option (Challenge F EF)) →
     Effect S Symbol A → Absorbed F O → Play S Symbol F EF O
 known_with interaction Fits f effect absorbed = record {
@@ -80,7 +81,7 @@ abbrev pub known : {S Symbol F EF O A : Type 0} → Step → (A → Option (Chal
     Absorbed F O → Play S Symbol F EF O
 known interaction f effect absorbed = known_with interaction IsNothing f effect absorbed
 
--- the same of a list that may not be so long
+-- the proof has no bytes of a list with a greatest length: the step has this effect
 abbrev pub known_within : {S Symbol F EF O A : Type 0} → Step → ℕ → ℕ → Effect S Symbol A → Absorbed F O →
     Play S Symbol F EF O
 known_within interaction len max effect absorbed =
@@ -88,7 +89,7 @@ known_within interaction len max effect absorbed =
 
 -- ---- what is sent
 
--- of a value of this type, or else of none
+-- for a value of this type, or else for none
 abbrev pub when_some : {A R : Type 0} → R → (A → R) → Option A → R
 when_some other f None = other
 when_some other f (Some x) = f x
@@ -97,7 +98,7 @@ abbrev pub effect_some : {S Symbol A T : Type 0} → T → (A → Effect S Symbo
 effect_some other f None = untouched other
 effect_some other f (Some x) = f x
 
--- A value of the type that `found` finds is sent, where it is fit: the meaning of each.
+-- A value is sent if `found` finds one of its type and it fits. Each has this meaning.
 abbrev pub sends : {S Symbol F EF O A : Type 0} → Step → (Value F EF → Option A) → (A → Type 0) → (A → Type 0) →
     (A → Meaning S Symbol A) → (A → Absorbed F O) → Play S Symbol F EF O
 sends interaction found IsHanded IsFit sent absorbed = record {
@@ -133,17 +134,17 @@ works work place condition wire absorbed = record {
   absorbed = λ v. when_some Nothing absorbed (witness_in v);
 }
 
--- and the proof carries
+-- a witness that the prover finds and the proof carries
 abbrev pub sends_witness : {S Symbol F EF O : Type 0} → Work S Symbol F → Type 0 → Encoding F →
     (F → Absorbed F O) → Play S Symbol F EF O
 sends_witness work condition enc absorbed = works work Found condition enc.wire absorbed
 
--- and the caller carries
+-- a witness that the prover finds and the caller carries
 abbrev pub carries_witness : {S Symbol F EF O : Type 0} → Work S Symbol F → Type 0 → (F → Absorbed F O) →
     Play S Symbol F EF O
 carries_witness work condition absorbed = works work Carried condition (λ _. []) absorbed
 
--- ---- fit by their length
+-- ---- values that fit by their length
 
 abbrev pub Any : {A : Type 0} → A → Type 0
 Any x = Unit {0}

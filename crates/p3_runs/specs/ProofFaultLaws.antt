@@ -23,7 +23,7 @@ module _ {X S Symbol I F EF O Ac U D : Type 0} (rules : Rules S Symbol I F EF O 
     (taken : (x : X) → FitsLength (play x).interaction.length → (play x).admitted → IsTakenWherePossible (play x) (sides x))
     (reasons : (x : X) → (play x).admitted → RefuseForOneReason (sides x)) where
   module _ (script : Run X F EF S U D) (bytes : List ℕ) (carried : List F) (admitted : AreAdmitted play script.steps) where
-    -- a verifier stops at this step, after this front
+    -- a verifier stops at this step, after this prefix
     record StopsAt (front : List X) (x : X) (e : TranscriptError) : Type 0 where
       values : List (Value F EF)
       left : List ℕ
@@ -63,7 +63,7 @@ module _ {X S Symbol I F EF O Ac U D : Type 0} (rules : Rules S Symbol I F EF O 
           stops = stops-at position e r;
         }
 
-    -- no front goes past it
+    -- no prefix continues past that step
     past-memory : (front : List X) (x : X) (longer : List X) (e : TranscriptError) (values : List (Value F EF))
         (left : List ℕ) (unused : List (Value F EF)) → StopsAt front x e →
         Reaches rules play script bytes carried longer values left unused → GoesPast front x longer → e ≡ OutOfMemory
@@ -72,7 +72,7 @@ module _ {X S Symbol I F EF O Ac U D : Type 0} (rules : Rules S Symbol I F EF O 
         stop.witness stop.unused unused stop.after e stop.allowed stop.brought stop.reaches
         (subst (λ l. Reaches rules play script bytes carried l values left unused) past.split long) stop.refuses
 
-    -- at one step it stops for one reason
+    -- at one step a verifier stops for one reason
     one_stop : (front : List X) (x : X) (e f : TranscriptError) → StopsAt front x e → StopsAt front x f →
         (e ≡ OutOfMemory → ⊥) → (f ≡ OutOfMemory → ⊥) → refusal_of e ≡ refusal_of f
     one_stop front x e f one two p q =

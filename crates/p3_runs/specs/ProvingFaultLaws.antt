@@ -15,11 +15,11 @@ module _ {X S Symbol I F EF O Ac U D : Type 0} (rules : Rules S Symbol I F EF O 
     (possible : (x : X) → FitsLength (play x).interaction.length → (play x).admitted → IsSentWherePossible (play x) (sides x))
     (reasons : (x : X) → (play x).admitted → RefuseForOneReason (sides x)) where
   module _ (script : Run X F EF S U D) (sent : List (Value F EF)) (admitted : AreAdmitted play script.steps) where
-    -- where a prover stands after a front
+    -- the state of a prover after a prefix
     abbrev stands : List X → List (Value F EF) → Driving S
     stands front values = driving_after rules play (with_steps script front values) (runs.wires play front values)
 
-    -- a prover stops at this step, after this front
+    -- a prover stops at this step, after this prefix
     record StopsAt (front : List X) (x : X) (e : TranscriptError) : Type 0 where
       values : List (Value F EF)
       given : Value F EF
@@ -56,7 +56,7 @@ module _ {X S Symbol I F EF O Ac U D : Type 0} (rules : Rules S Symbol I F EF O 
           stops = stops-at position e r;
         }
 
-    -- no front goes past it
+    -- no prefix continues past that step
     past-memory : (front : List X) (x : X) (longer : List X) (e : TranscriptError) (values unused : List (Value F EF)) →
         StopsAt front x e → ReachesSent rules play script sent longer values unused → GoesPast front x longer →
         e ≡ OutOfMemory
@@ -65,7 +65,7 @@ module _ {X S Symbol I F EF O Ac U D : Type 0} (rules : Rules S Symbol I F EF O 
         e told possible stop.allowed stop.is_handed stop.reaches
         (subst (λ l. ReachesSent rules play script sent l values unused) past.split long) stop.refuses
 
-    -- at one step it stops for one reason
+    -- at one step a prover stops for one reason
     one_stop : (front : List X) (x : X) (e f : TranscriptError) → StopsAt front x e → StopsAt front x f →
         (e ≡ OutOfMemory → ⊥) → (f ≡ OutOfMemory → ⊥) → refusal_of e ≡ refusal_of f
     one_stop front x e f one two p q =

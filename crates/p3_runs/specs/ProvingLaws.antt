@@ -23,19 +23,19 @@ witnesses-one : {F EF : Type 0} (w : Option F) → all_witnesses {EF = EF} (one_
 witnesses-one None = refl
 witnesses-one (Some x) = refl
 
--- the caller carries the witness of a step whose witness it carries
+-- the caller carries the witness of exactly the steps whose place says so
 one-carried : {F EF : Type 0} (place : Place) (v : Value F EF) (w : Option F) → if_witness place v ≡ one_witness w →
     all_witnesses (where_carried place (one_of w)) ≡ if_carried place v
 one-carried Carried v w h = witnesses-one w ∙ sym h
 one-carried _ v w h = refl
 
--- what is left of the values once a step has taken its own
+-- the values left after a step has taken its own
 rest-handed : {V : Type 0} (place : Place) (Is : V → Type 0) (Rest : List V → Type 0) (given : V) (rest : List V) →
     FirstIs place Is Rest (if_sent place given ++ rest) → Rest rest
 rest-handed Sent Is Rest given rest h = h.1
 rest-handed _ Is Rest given rest h = h
 
--- of values of which the first is one where a step has one, the first is one
+-- if a step has a value, the first of the values is its own
 pub first-handed : {V : Type 0} (place : Place) (Is : V → Type 0) (Rest : List V → Type 0) (values : List V) →
     FirstIs place Is Rest values → StartsHanded place Is values
 first-handed Sent Is Rest [] h = absurd h
@@ -43,8 +43,8 @@ first-handed Sent Is Rest (v ∷ values) h = (h.0, tt)
 first-handed _ Is Rest values h = tt
 
 module _ {X S Symbol I F EF O Ac U D : Type 0} (rules : Rules S Symbol I F EF O Ac) (play : X → Play S Symbol F EF O) where
-  -- The first i steps were played, and j of the values that the prover is handed were used: the bytes that were written,
-  -- the witnesses that were found and what was drawn are those of this front, and the driver stands after it.
+  -- The first i steps were played, and j of the values that the prover is handed were used. The bytes written, the
+  -- witnesses found and the challenges drawn are those of this prefix, and the driver stands after it.
   pub record Proves (script : Run X F EF S U D) (sent : List (Value F EF)) (i j : ℕ) (now : Driving S)
       (witnesses carried : List F) (drawn : List (Challenge F EF)) : Type 0 where
     pub before : List X
@@ -113,7 +113,7 @@ module _ {X S Symbol I F EF O Ac U D : Type 0} (rules : Rules S Symbol I F EF O 
         drawn_is = rw (drawn_more, f.drawn_is) refl;
       }
 
-  -- the next step is handed what it takes
+  -- the next step is handed the value that it takes
   pub proves-next : (script : Run X F EF S U D) (sent : List (Value F EF)) (i j : ℕ) (now : Driving S)
       (witnesses carried : List F) (drawn : List (Challenge F EF)) (x : X) →
       drop i script.steps ≡ x ∷ drop (i + 1) script.steps → Proves script sent i j now witnesses carried drawn →

@@ -1,4 +1,4 @@
--- What a whole script comes to on the prover's side.
+-- The outcome of a whole script on the prover's side.
 use Rattle.std.specs.Prelude.{◌≡◌, ℕ, List, [], ◌∷◌, ◌++◌, ◌⊎◌, length}
 use Rattle.p3_fs_core.specs.{Errors.pattern_error_of, declared.error.TranscriptError.TranscriptError}
 use Rattle.p3_patterns.specs.Playing.{FaultOfPlayEnd, IsPatternError}
@@ -8,26 +8,26 @@ use Rattle.p3_runs.specs.{Plays.{Carried, Place, Play, Sent}, Values.{Challenge,
 use Rattle.p3_runs.specs.{Sides.Sides, Stepping.{all_witnesses, OrHalts}, Verdicts.{driving_after, playing_after, with_steps}}
 use Rattle.p3_runs.specs.Runs as runs
 
--- the first value is one, and of the others this holds, where the prover is handed a value for a step
+-- if the prover is handed a value for a step, the first value is one, and this holds of the others
 abbrev pub FirstIs : {V : Type 0} → Place → (V → Type 0) → (List V → Type 0) → List V → Type 0
 FirstIs Sent Is Rest [] = ⊥
 FirstIs Sent Is Rest (v ∷ values) = Is v × Rest values
 FirstIs _ Is Rest values = Rest values
 
--- the values are one for each step that has one, where they stand so, and each is one of these
+-- there is one value for each step whose place says so, and each value is one of these
 abbrev pub AreAmong : {X V : Type 0} → (X → Place) → (X → V → Type 0) → List X → List V → Type 0
 AreAmong place Is [] values = values ≡ []
 AreAmong place Is (x ∷ steps) values = FirstIs (place x) (Is x) (AreAmong place Is steps) values
 
 module _ {X S Symbol F EF O : Type 0} (play : X → Play S Symbol F EF O) where
-  -- the values are those that a prover is handed for the steps: one for each that has one, of its type and, where the
-  -- step says so, of its length
+  -- There is one value for each step that the prover is handed a value for. Each is of its step's type and, where the
+  -- step fixes a length, of that length.
   abbrev pub AreHanded : List X → List (Value F EF) → Type 0
   AreHanded steps values = AreAmong (λ x. (play x).place) (λ x. (play x).IsHanded) steps values
 
 module _ {X S Symbol I F EF O Ac U D : Type 0} (rules : Rules S Symbol I F EF O Ac) (play : X → Play S Symbol F EF O) where
-  -- The run of a prover that is handed these values: it is finished and plays the whole pattern, the values stand at
-  -- their steps, and each witness is the least one that passes there.
+  -- The run of a prover that is handed these values. It is finished and plays the whole pattern, its steps have these
+  -- values, and each witness is the least one that passes.
   pub record IsProverRun (run : Run X F EF S U D) (sent : List (Value F EF)) : Type 0 where
     pub finished : IsFinished rules play run
     pub whole : IsWhole rules play run
@@ -45,7 +45,7 @@ module _ {X S Symbol I F EF O Ac U D : Type 0} (rules : Rules S Symbol I F EF O 
     pub refuses : IsPatternError
         (λ m. FaultOfPlayEnd (playing_after (with_steps script script.steps values)) (pattern_error_of m)) e
 
--- ---- where and why a prover refuses, by why it refuses each step
+  -- A step is refused. It comes with this value after a finished prefix, each of whose witnesses is the least.
 
 module _ {X S Symbol I F EF O Ac U D : Type 0} (rules : Rules S Symbol I F EF O Ac) (play : X → Play S Symbol F EF O)
     (sides : X → Sides S F EF) where
@@ -68,26 +68,26 @@ module _ {X S Symbol I F EF O Ac U D : Type 0} (rules : Rules S Symbol I F EF O 
     pub refuses : OrHalts ((sides step).prover given)
         (driving_after rules play (with_steps script before values) (runs.wires play before values)) e after
 
-  -- the seed is refused; or the first step that is; or the end
+  -- The end is refused: all steps were played, and steps of the pattern are left.
   abbrev pub RefusesToProve : Run X F EF S U D → List (Value F EF) → ℕ → TranscriptError → Type 0
   RefusesToProve script sent position e =
       ((position ≡ 0) × RefusesStart (rules.alphabet.is_too_long (length (seed rules play script))) e)
       ⊎ RefusesToProveStep script sent position e ⊎ RefusesToProveEnd rules play script sent position e
 
--- ---- what a prover answers
+-- ---- the results of a prover
 
--- a witness, where the caller carries it
+-- a witness, if the caller carries it
 abbrev pub where_carried : {A : Type 0} → Place → List A → List A
 where_carried Carried xs = xs
 where_carried _ xs = []
 
--- The first value is one of these, where the prover is handed a value for a step.
+-- The first value is one of these, if the prover is handed a value for the step.
 abbrev pub StartsHanded : {V : Type 0} → Place → (V → Type 0) → List V → Type 0
 StartsHanded place Is values = FirstIs place Is (λ _. Unit {0}) values
 
 module _ {X S Symbol I F EF O Ac U D : Type 0} (rules : Rules S Symbol I F EF O Ac) (play : X → Play S Symbol F EF O) where
-  -- It is the run of a prover that is handed these values; and these are its bytes, its witnesses, those that its caller
-  -- carries, its challenges and its final challenger.
+  -- This is the run of a prover that is handed these values, with these bytes, witnesses, carried witnesses, challenges
+  -- and final challenger.
   pub record IsProverOutcome (run : Run X F EF S U D) (sent : List (Value F EF)) (narg : List ℕ)
       (witnesses carried : List F) (drawn : List (Challenge F EF)) (end : S) : Type 0 where
     pub is_run : IsProverRun rules play run sent
@@ -97,7 +97,7 @@ module _ {X S Symbol I F EF O Ac U D : Type 0} (rules : Rules S Symbol I F EF O 
     pub drawn_is : drawn ≡ challenges rules play run
     pub end_is : end ≡ last rules play run
 
-  -- What a prover answers for a script, whose values it is handed: there is a run of them, and the answer is that run's.
+  -- The result of a prover for a script with these handed values: they have a run, and the result is that run's.
   pub record IsProved (script : Run X F EF S U D) (sent : List (Value F EF)) (narg : List ℕ) (witnesses carried : List F)
       (drawn : List (Challenge F EF)) (end : S) : Type 0 where
     pub values : List (Value F EF)

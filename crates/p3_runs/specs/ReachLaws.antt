@@ -1,4 +1,4 @@
--- Fronts of one script over the same bytes and carried witnesses: each goes on from those that are shorter.
+-- Prefixes of one script over the same bytes and carried witnesses: each continues the shorter ones.
 use Rattle.std.proofs.Common.{◌≡◌, ℕ, List, [], ◌∷◌, ◌++◌, Option, Some, None, refl, sym, ap}
 use Rattle.std.proofs.Common.{append_assoc, append-nil, inl, inr}
 use Rattle.p3_fs_core.specs.{StepFits.{FitsLength, AreProgramSteps}, declared.error.TranscriptError.TranscriptError}
@@ -11,7 +11,7 @@ use Rattle.p3_runs.specs.Stepping.{IsCarriedTo, OrHalts, one_witness, all_witnes
 use Rattle.p3_runs.specs.Verdicts.{with_steps, driving_after}
 use Rattle.p3_runs.specs.Runs as runs
 
--- the witness that a caller carries is the value where it carries one
+-- the witness that a caller carries is the value of the step that it carries one for
 carried-first : {F EF : Type 0} (place : Place) (w : Option F) (v : Value F EF) (a b : List (Value F EF)) →
     IsCarriedTo place w → one_witness w ++ a ≡ if_carried place v ++ b → if_carried place v ≡ one_witness w
 carried-first Carried None v a b h e = absurd (cc)
@@ -28,7 +28,7 @@ module _ {X S Symbol F EF O : Type 0} (play : X → Play S Symbol F EF O) where
 
 module _ {X S Symbol I F EF O Ac U D : Type 0} (rules : Rules S Symbol I F EF O Ac) (play : X → Play S Symbol F EF O)
     (script : Run X F EF S U D) (bytes : List ℕ) (carried : List F) where
-  -- The bytes and the carried witnesses begin with those of a finished front, and these are left after it.
+  -- The bytes and the carried witnesses begin with those of a finished prefix, and these are left after it.
   pub record Reaches (front : List X) (values : List (Value F EF)) (left : List ℕ) (unused : List (Value F EF))
       : Type 0 where
     pub finished : IsFinished rules play (with_steps script front values)
@@ -45,7 +45,7 @@ module _ {X S Symbol I F EF O Ac U D : Type 0} (rules : Rules S Symbol I F EF O 
         (all-canonical play canonical front later (front-fits rules play script (front ++ later) values long.finished))
         short.finished.finishes long.finished.finishes (cc (short.read, long.read)) (cc (short.carries, long.carries))
 
-    -- the values of a front are the only ones, and so is what is left
+    -- a prefix has only these values, and only this is left after it
     pub one-front : (front : List X) (values others : List (Value F EF)) (left after : List ℕ)
         (unused unspent : List (Value F EF)) → Reaches front values left unused → Reaches front others after unspent →
         (others ≡ values) × (left ≡ after) × (unused ≡ unspent)
@@ -85,7 +85,7 @@ module _ {X S Symbol I F EF O Ac U D : Type 0} (rules : Rules S Symbol I F EF O 
         first-taken x later _ witness unused unspent here there after e next fits may brought refuses h left carries =
             absurd h
 
-        -- a step that a longer front has passed is refused only when out of memory
+        -- a step within a longer prefix is refused only when out of memory
         pub passed-step : (front : List X) (x : X) (later : List X) (done values : List (Value F EF)) (left after : List ℕ)
             (witness : Option F) (unused unspent : List (Value F EF)) (there : Driving S) (e : TranscriptError) →
             (play x).admitted → IsCarriedTo (play x).place witness →

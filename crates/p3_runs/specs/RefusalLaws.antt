@@ -1,4 +1,4 @@
--- Where a prover refuses a script for another reason than being out of memory, there is no run of it.
+-- Where a prover refuses a script, except when out of memory, the script has no run.
 use Rattle.std.proofs.Common.{◌≡◌, ℕ, List, [], ◌∷◌, ◌++◌, inl, inr, refl, sym, ap, ◌∙◌, subst, append_assoc}
 use Rattle.std.proofs.{Common.{append-nil, length, true, false}, lemmas.List.length-map}
 use Rattle.p3_challenger_core.specs.declared.error.ChallengerError.TheVariants.{TooLong}
@@ -40,17 +40,17 @@ sent-split Sent v w a b h =
 sent-split _ v w a b h = (refl, h)
 
 module _ {X S Symbol F EF O : Type 0} (play : X → Play S Symbol F EF O) where
-  -- the values of each step are told so; of the steps of a list only the type is read
+  -- what is sent determines the values of each step; of the list of steps only the type is read
   abbrev pub AreDetermined : List X → Type 0
   AreDetermined steps = (x : X) → IsDetermined (play x)
 
-  -- each admitted step whose length a pattern can have is refused only when out of memory, where it may be played; of
-  -- the steps of a list only the type is read
+  -- An admitted step that may be played, and whose length a pattern can have, is refused only when out of memory. Of
+  -- the list of steps only the type is read.
   abbrev pub AreRefusedForMemory : (X → Sides S F EF) → List X → Type 0
   AreRefusedForMemory sides steps =
       (x : X) → FitsLength (play x).interaction.length → (play x).admitted → IsSentWherePossible (play x) (sides x)
 
-  -- A prover's run goes on from a front that was handed all but these values, of which those are left after it.
+  -- A prover's run continues a prefix that was handed all values except these, of which those are left after it.
   pub record GoesOnSent (front later : List X) (done values : List (Value F EF)) (s : S)
       (unused unspent : List (Value F EF)) : Type 0 where
     pub more : List (Value F EF)
@@ -59,7 +59,7 @@ module _ {X S Symbol F EF O : Type 0} (play : X → Play S Symbol F EF O) where
     pub chosen : AreChosen play later more (runs.after play front done s)
     pub rest : unused ≡ runs.handed play later more ++ unspent
 
-  -- Of a prover's run, the first values are those of a finished front that was handed the same.
+  -- The first values of a prover's run are those of a finished prefix that was handed the same.
   pub front-of_sent : (front later : List X) (done values : List (Value F EF)) (s : S)
       (unused unspent : List (Value F EF)) →
       AreDetermined front → Finishes play front done s → AreChosen play front done s →
@@ -84,7 +84,7 @@ module _ {X S Symbol F EF O : Type 0} (play : X → Play S Symbol F EF O) where
       }
   front-of_sent _ later _ values s unused unspent told h c run chosen hands = absurd h
 
-  -- a step that a run goes on with is refused only when out of memory
+  -- a step that a run continues with is refused only when out of memory
   step-memory : (sides : X → Sides S F EF) (x : X) (later : List X) (more : List (Value F EF)) (here there : Driving S) (given : Value F EF)
       (unused unspent : List (Value F EF)) (e : TranscriptError) → IsSentWherePossible (play x) (sides x) →
       (play x).IsHanded given → OrHalts ((sides x).prover given) here e there →
@@ -101,7 +101,7 @@ module _ {X S Symbol F EF O : Type 0} (play : X → Play S Symbol F EF O) where
   step-memory sides x later (v ∷ more) here there given unused unspent e law handed (inr halts) next run chosen hands = halts.0
 
 module _ {X S Symbol I F EF O Ac U D : Type 0} (rules : Rules S Symbol I F EF O Ac) (play : X → Play S Symbol F EF O) where
-  -- The values that a prover is handed begin with those of a finished front, and these are left after it.
+  -- The values that a prover is handed begin with those of a finished prefix, and these are left after it.
   pub record ReachesSent (script : Run X F EF S U D) (sent : List (Value F EF)) (front : List X)
       (values unused : List (Value F EF)) : Type 0 where
     pub finished : IsFinished rules play (with_steps script front values)
@@ -116,7 +116,7 @@ module _ {X S Symbol I F EF O Ac U D : Type 0} (rules : Rules S Symbol I F EF O 
       front-of_sent play front later done values (seeded rules play script) unused unspent told short.finished.finishes
       short.least long.finished.finishes long.least (cc (short.handed, long.handed))
 
-  -- the values of a front are the only ones, and so are those that are left
+  -- a prefix has only these values, and only these are left after it
   pub one-sent : (script : Run X F EF S U D) (sent : List (Value F EF)) (front : List X)
       (values others unused unspent : List (Value F EF)) → AreDetermined play front →
       ReachesSent script sent front values unused → ReachesSent script sent front others unspent →
@@ -126,7 +126,7 @@ module _ {X S Symbol I F EF O Ac U D : Type 0} (rules : Rules S Symbol I F EF O 
       (rw append-nil second) in
       let none = no_values-left play on.more _ on.finishes in (rw (none, append-nil) at on.split, on.rest)
 
-  -- a step that a longer front has passed is refused only when out of memory
+  -- a step within a longer prefix is refused only when out of memory
   pub passed-sent : (sides : X → Sides S F EF) (script : Run X F EF S U D) (sent : List (Value F EF)) (front : List X) (x : X) (later : List X)
       (done values unused unspent : List (Value F EF)) (given : Value F EF) (there : Driving S) (e : TranscriptError) →
       AreDetermined play front → AreRefusedForMemory play sides front → (play x).admitted → (play x).IsHanded given →
@@ -158,7 +158,7 @@ module _ {X S Symbol I F EF O Ac U D : Type 0} (rules : Rules S Symbol I F EF O 
       (record { finished = r.finished; least = r.least; handed = r.handed })
       (subst (λ l. ReachesSent script sent l values []) r.steps whole) r.refuses
 
-  -- Where a prover refuses for another reason than being out of memory, no values are the script's.
+  -- Where a prover refuses, except when out of memory, no values are the script's.
   pub refused-never : (sides : X → Sides S F EF) (script : Run X F EF S U D) (sent : List (Value F EF)) (position : ℕ) (e : TranscriptError) →
       AreDetermined play script.steps → AreRefusedForMemory play sides script.steps → runs.AreAdmitted play script.steps →
       RefusesToProve rules play sides script sent position e →

@@ -1,10 +1,10 @@
--- Lemmas on runs: a step more at the end, and that bytes and carried witnesses tell a run.
+-- Lemmas on runs: adding a step at the end, and that bytes and carried witnesses determine a run.
 use Rattle.std.proofs.{Common.{◌≡◌, ℕ, List, [], ◌∷◌, ◌++◌, IsSome, refl}, Common.{append_assoc, append-nil}}
 use Rattle.p3_runs.specs.{Plays.{Play, Place}, Stepping.IsCanonical, Values.Value}
 use Rattle.p3_runs.specs.Runs.{wires, picked, carried, after, challenges, Finishes, AreChosen, if_drawn}
 
 module _ {X S Symbol F EF O : Type 0} (play : X → Play S Symbol F EF O) where
-  -- as many values as steps
+  -- there are as many values as steps
   abbrev pub AreMatched : List X → List (Value F EF) → Type 0
   AreMatched [] [] = Unit {0}
   AreMatched (x ∷ steps) (v ∷ values) = AreMatched steps values
@@ -16,7 +16,7 @@ module _ {X S Symbol F EF O : Type 0} (play : X → Play S Symbol F EF O) where
   finished-matched (x ∷ steps) (v ∷ values) s h = finished-matched steps values _ h.3
   finished-matched _ _ s h = absurd h
 
-  -- ---- a step more
+  -- ---- one more step
 
   pub finishes-more : (steps : List X) (values : List (Value F EF)) (s : S) (x : X) (v : Value F EF) →
       Finishes play steps values s → (play x).Fits v → ((play x).effect v).fits →
@@ -68,14 +68,14 @@ module _ {X S Symbol F EF O : Type 0} (play : X → Play S Symbol F EF O) where
       (chosen.0, chosen-more steps values _ x v h chosen.1 last)
   chosen-more _ _ s x v h chosen last = absurd h
 
-  -- ---- a run is told by its bytes and its carried witnesses
+  -- ---- the bytes and the carried witnesses determine a run
 
-  -- each step is told so
+  -- the bytes and the carried witness determine each step
   abbrev pub AreCanonical : List X → Type 0
   AreCanonical [] = Unit {0}
   AreCanonical (x ∷ steps) = IsCanonical (play x) × AreCanonical steps
 
-  -- A run goes on from a front, with these bytes and carried witnesses, of which those are left after it.
+  -- A run continues a prefix, with these bytes and carried witnesses, of which those are left after it.
   pub record GoesOn (front later : List X) (done values : List (Value F EF)) (s : S) (bytes left : List ℕ)
       (unused unspent : List (Value F EF)) : Type 0 where
     pub more : List (Value F EF)
@@ -84,7 +84,7 @@ module _ {X S Symbol F EF O : Type 0} (play : X → Play S Symbol F EF O) where
     pub rest : bytes ≡ wires play later more ++ left
     pub carries : unused ≡ carried play later more ++ unspent
 
-  -- Of a run that finishes, the first values are those of a finished front over the same bytes and carried witnesses.
+  -- The first values of a finished run are those of a finished prefix over the same bytes and carried witnesses.
   pub front-of_run : (front later : List X) (done values : List (Value F EF)) (s : S) (bytes left : List ℕ)
       (unused unspent : List (Value F EF)) → AreCanonical front → Finishes play front done s →
       Finishes play (front ++ later) values s →

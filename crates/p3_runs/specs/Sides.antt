@@ -1,4 +1,4 @@
--- Why the two sides of a transcript refuse a step of a script.
+-- The refusals of a script's step by the two sides of a transcript.
 use Rattle.std.specs.Prelude.{◌≡◌, ℕ, ◌≤◌, ◌⊎◌, Option, Some, None}
 use Rattle.p3_fs_core.specs.{Encoding.Encoding, declared.error.TranscriptError.TranscriptError}
 use Rattle.p3_driver_core.specs.{Driving.Driving, Proving.{RefusesToWrite, RefusesLongList, Unwritten}}
@@ -7,42 +7,42 @@ use Rattle.p3_driver_core.specs.{Verifying.{RefusesToRead, FailsWork}, Working.{
 use Rattle.p3_step_laws.specs.OneReason.{RefusesCarriedOrStep, RefusesRecordedOrStep}
 use Rattle.p3_runs.specs.{Plays.{Play, meaning}, Values.{Nothing, Value}}
 
--- of a side at a step: its state before, the error, and its state after
+-- a relation of a side at a step: its state before, the error, and its state after
 abbrev pub Refusing : Type 0 → Type 1
 Refusing S = Driving S → TranscriptError → Driving S → Type 0
 
--- why a prover refuses a step, by what it was handed; and why a verifier does, by the witness that its caller carries, if
--- it does
+-- The refusals of a step by its two sides. Those of a prover depend on the value that it was handed. Those of a verifier
+-- depend on the witness that its caller carries, if any.
 pub record Sides (S F EF : Type 0) : Type 1 where
   pub prover : Value F EF → Refusing S
   pub verifier : Option F → Refusing S
 
--- of what was found, if anything was
+-- the refusals for a value that was found, if there is one
 abbrev pub refuses_some : {S A : Type 0} → (A → Refusing S) → Option A → Refusing S
 refuses_some refuses None before e after = ⊥
 refuses_some refuses (Some x) before e after = refuses x before e after
 
 -- ---- why a side refuses
 
--- the step is refused, and the bytes of the proof stay as they are
+-- the step is refused, and the bytes of the proof stay the same
 abbrev pub RefusesKept : {S Symbol A : Type 0} → Meaning S Symbol A → Refusing S
 RefusesKept m before e after = RefusesStep m before.transcript e after.transcript × (after.bytes ≡ before.bytes)
 
--- the same of a list that may not be so long, on the prover's side
+-- a list with a greatest length is refused on the prover's side
 abbrev pub RefusesWithin : {S Symbol A : Type 0} → ℕ → ℕ → Meaning S Symbol A → Refusing S
 RefusesWithin len max m before e after = (RefusesLongList len max before e after
     ⊎ ((len ≤ max) × RefusesStep m before.transcript e after.transcript)) × (after.bytes ≡ before.bytes)
 
--- and on the verifier's
+-- a list with a greatest length is refused on the verifier's side
 abbrev pub RefusesCarriedWithin : {S Symbol A : Type 0} → ℕ → ℕ → Meaning S Symbol A → Refusing S
 RefusesCarriedWithin len max m before e after =
     RefusesCarriedOrStep len max m before e after × (after.bytes ≡ before.bytes)
 
--- the same of a list that has as many elements as the next step says
+-- a list as long as the next step says is refused
 abbrev pub RefusesAsRecorded : {S Symbol A : Type 0} → ℕ → Meaning S Symbol A → Refusing S
 RefusesAsRecorded len m before e after = RefusesRecordedOrStep len m before e after × (after.bytes ≡ before.bytes)
 
--- a prover does not write what is sent, where it may be so long
+-- a prover does not write a value with a greatest length
 abbrev pub RefusesToWriteWithin : {S Symbol A : Type 0} → ℕ → ℕ → Meaning S Symbol A → Refusing S
 RefusesToWriteWithin len max m before e after =
     RefusesLongList len max before e after ⊎ ((len ≤ max) × RefusesToWrite m before e after)
@@ -69,25 +69,25 @@ RefusesCarriedWork work x before e after =
 
 -- ---- the sides of a step
 
--- what both sides know
+-- both sides know the value
 abbrev pub sides_known : {S F EF : Type 0} → Refusing S → Refusing S → Sides S F EF
 sides_known proving verifying = record { prover = λ _. proving; verifier = λ _. verifying }
 
--- the same, where both refuse it as any step is refused that leaves the proof as it is
+-- both sides refuse the step alike, and leave the bytes of the proof as they are
 abbrev pub sides_alike : {S Symbol F EF O : Type 0} → Play S Symbol F EF O → Sides S F EF
 sides_alike play = sides_known (RefusesKept (meaning play Nothing)) (RefusesKept (meaning play Nothing))
 
--- what the prover sends, and the verifier reads
+-- the prover is handed the value and sends it, and the verifier reads it
 abbrev pub sides_sent : {S F EF A : Type 0} → (Value F EF → Option A) → (A → Refusing S) → Refusing S → Sides S F EF
 sides_sent found proving verifying =
     record { prover = λ v. refuses_some proving (found v); verifier = λ _. verifying }
 
--- a witness that the prover finds, and the verifier reads
+-- a witness that the prover finds and the verifier reads
 abbrev pub sides_ground : {S Symbol F EF : Type 0} → Work S Symbol F → Encoding F → (S → Type 0) → Sides S F EF
 sides_ground work enc may_run_out =
     record { prover = λ _. RefusesToGrindAndWrite work enc may_run_out; verifier = λ _. RefusesToReadWork work enc }
 
--- and the verifier's caller carries
+-- a witness that the prover finds and the verifier's caller carries
 abbrev pub sides_carried : {S Symbol F EF : Type 0} → Work S Symbol F → (S → Type 0) → Sides S F EF
 sides_carried work may_run_out = record {
   prover = λ _. RefusesToGrindAndKeep work may_run_out;

@@ -1,7 +1,8 @@
--- What stands at the steps of a script besides what the script itself says, and what is drawn there.
+-- The values at the steps of a script that the script itself does not have, and the challenges drawn
+-- there.
 use Rattle.std.specs.Prelude.{ℕ, List, Option, Some, None}
 
--- what stands at a step: nothing, or a value that the proof or the caller carries
+-- the value at a step: nothing, or a value that the proof or the caller carries
 pub data Value (F EF : Type 0) : Type 0 where
   Nothing : Value F EF
   Bytes : List ℕ → Value F EF
@@ -10,7 +11,7 @@ pub data Value (F EF : Type 0) : Type 0 where
   Extension : EF → Value F EF
   Witness : F → Value F EF
 
--- what is drawn at a step
+-- the challenge drawn at a step
 pub data Challenge (F EF : Type 0) : Type 0 where
   OfScalars : List F → Challenge F EF
   OfExtensions : List EF → Challenge F EF

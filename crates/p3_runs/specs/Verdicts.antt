@@ -1,4 +1,4 @@
--- What a whole script comes to on the verifier's side.
+-- The outcome of a whole script on the verifier's side.
 use Rattle.std.specs.Prelude.{◌≡◌, ℕ, List, [], ◌∷◌, ◌++◌, ◌⊎◌, Option, length, false}
 use Rattle.p3_fs_core.specs.declared.error.TranscriptError.{TranscriptError}
 use Rattle.p3_domain_separator.specs.SeparatorSeed.{pattern_of}
@@ -10,36 +10,36 @@ use Rattle.p3_runs.specs.{Sides.Sides, Stepping.{OrHalts, one_witness, all_witne
 use Rattle.p3_runs.specs.Values.{Value, Challenge}
 use Rattle.p3_runs.specs.Runs as runs
 
--- these values at these steps, under the same separator and from the same challenger
+-- the run with these values at these steps, under the same separator and from the same challenger
 abbrev pub with_steps : {X F EF S U D : Type 0} → Run X F EF S U D → List X → List (Value F EF) → Run X F EF S U D
 with_steps run steps values = record run { steps = steps; values = values }
 
--- a script under a separator, from a state of a challenger, with no values yet
+-- a script without values, under a separator and from a state of a challenger
 abbrev pub script_of : {X F EF S U D : Type 0} → S → DomainSeparator U D → List X → Run X F EF S U D
 script_of challenger separator steps =
     record { challenger = challenger; separator = separator; steps = steps; values = [] }
 
--- what is played of the pattern after a front of the script
+-- the progress in the pattern after a prefix of the script
 abbrev pub playing_after : {X F EF S U D : Type 0} → Run X F EF S U D → Playing
 playing_after front = record { pattern = pattern_of front.separator; position = length front.steps; finished = false }
 
 module _ {X S Symbol I F EF O Ac U D : Type 0} (rules : Rules S Symbol I F EF O Ac) (play : X → Play S Symbol F EF O) where
-  -- A proof of the run: it is finished and plays the whole pattern, these bytes are its wire with nothing after it, and
-  -- its carried witnesses are these.
+  -- A proof of the run. The run is finished and plays the whole pattern, its wire is these bytes with nothing after
+  -- them, and its carried witnesses are these.
   pub record IsProof (run : Run X F EF S U D) (bytes : List ℕ) (carried : List F) : Type 0 where
     pub finished : IsFinished rules play run
     pub whole : IsWhole rules play run
     pub wire_is : bytes ≡ wire rules play run
     pub carries : all_witnesses carried ≡ runs.carried play run.steps run.values
 
-  -- the run's values that stand in the proof, its challenges and its final challenger
+  -- the run's values in the proof, its challenges and its final challenger
   pub record IsOutcome (run : Run X F EF S U D) (received : List (Value F EF)) (drawn : List (Challenge F EF)) (end : S) :
       Type 0 where
     pub received_is : received ≡ runs.in_proof play run.steps run.values
     pub drawn_is : drawn ≡ challenges rules play run
     pub end_is : end ≡ last rules play run
 
-  -- The proof is accepted: there is one list of values whose run has it, and the answer is that run's.
+  -- The proof is accepted: exactly one list of values has a run with it, and the result is that run's.
   pub record Accepts (script : Run X F EF S U D) (bytes : List ℕ) (carried : List F) (received : List (Value F EF))
       (drawn : List (Challenge F EF)) (end : S) : Type 0 where
     pub values : List (Value F EF)
@@ -53,7 +53,7 @@ module _ {X S Symbol I F EF O Ac U D : Type 0} (rules : Rules S Symbol I F EF O 
   HasNoProof script bytes carried =
       (values : List (Value F EF)) → IsProof (with_steps script script.steps values) bytes carried → ⊥
 
-  -- a driver after a front of the script, with these bytes
+  -- a driver after a prefix of the script, with these bytes
   abbrev pub driving_after : Run X F EF S U D → List ℕ → Driving S
   driving_after front bytes =
       record { transcript = record { challenger = last rules play front; playing = playing_after front }; bytes = bytes }
@@ -69,12 +69,12 @@ module _ {X S Symbol I F EF O Ac U D : Type 0} (rules : Rules S Symbol I F EF O 
     pub carries : all_witnesses carried ≡ runs.carried play script.steps values
     pub refuses : RefusesEnd (driving_after (with_steps script script.steps values) left) e
 
--- ---- where and why a verifier refuses a proof, by why it refuses each step
+-- ---- where and why a verifier refuses a proof, by its refusals of each step
 
 module _ {X S Symbol I F EF O Ac U D : Type 0} (rules : Rules S Symbol I F EF O Ac) (play : X → Play S Symbol F EF O)
     (sides : X → Sides S F EF) where
-  -- A step is refused: the proof begins with the bytes of a finished front, and the carried witnesses with those of the
-  -- front; then comes this step, and it is refused there.
+  -- A step is refused. The proof begins with the bytes of a finished prefix, and the carried witnesses with those of
+  -- the prefix. The step follows, and is refused there.
   pub record RefusesAtStep (script : Run X F EF S U D) (bytes : List ℕ) (carried : List F) (position : ℕ)
       (e : TranscriptError) : Type 0 where
     pub before : List X
@@ -94,7 +94,7 @@ module _ {X S Symbol I F EF O Ac U D : Type 0} (rules : Rules S Symbol I F EF O 
     pub refuses : OrHalts ((sides step).verifier witness)
         (driving_after rules play (with_steps script before values) left) e after
 
-  -- the seed is refused; or the first step that is; or the end
+  -- the seed is refused, or a step, or the end
   abbrev pub RefusesProof : Run X F EF S U D → List ℕ → List F → ℕ → TranscriptError → Type 0
   RefusesProof script bytes carried position e =
       ((position ≡ 0) × RefusesStart (rules.alphabet.is_too_long (length (seed rules play script))) e)

@@ -1,3 +1,3 @@
-//! Runs of scripts: what the steps of a protocol mean with their values, one after another. This crate has definitions
-//! and lemmas on them, and no code of its own; no driver is a part of them.
+//! Runs of scripts: the meaning of a protocol's steps with their values, one after another. This crate has definitions
+//! and lemmas on them, and no code of its own. No driver takes part.
 #![tactic(auto)]

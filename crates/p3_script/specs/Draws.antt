@@ -9,14 +9,15 @@ use Rattle.p3_runs.specs.Rules.{Rules}
 use Rattle.p3_script.specs.{Scripts.{play_of, challenge_of}, declared.steps.Drawn.Drawn}
 use Rattle.p3_script.specs.declared.steps.Step as script
 
--- The step, which has no value, is played, and this is drawn; or it is refused. The bytes of the proof stay as they are.
+-- The step, which has no value, is played and this is drawn, or the step is refused. The bytes of the proof stay the
+-- same.
 pub record DrawsChallengeOrRefuses {S Symbol F EF O R : Type 0} (play : Play S Symbol F EF O) (before : Driving S)
     (drawn : R → Challenge F EF) (result : Result R TranscriptError) (after : Driving S) : Type 0 where
   pub comes : MatchResult result
       (λ r. PlaysStep (meaning play Nothing) before.transcript (Some (drawn r)) after.transcript
       × (after.bytes ≡ before.bytes)) (λ e. RefusesKept (meaning play Nothing) before e after ⊎ Halts before e after)
 
--- The same of a step of a script, and of a driver of either side: it draws and keeps its bytes, or the step is refused.
+-- Of a script's step and a driver of either side: the driver draws this and keeps its bytes, or the step is refused.
 abbrev pub DrawsStep : {Su F EF U O C K Ac D G It St Sy P : Type 0} {hasher : Ghosts D} → Rules St Sy It F EF O Ac →
     (C → St) → (P → List ℕ) → script.Step Su F EF U O C K Ac D G It St Sy → DriverState C U D P hasher →
     Result (Drawn Su F EF U O C K Ac D G It St Sy) TranscriptError → DriverState C U D P hasher → Type 0

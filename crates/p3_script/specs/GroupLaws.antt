@@ -1,4 +1,4 @@
--- Of a group that has no such steps nothing is asked, and what it draws and observes in their place changes nothing.
+-- A group without such steps owes nothing for them: its draws and observations in their place change nothing.
 use Rattle.std.proofs.Common.{◌≡◌, false, IsTrue, List, [], ◌++◌, Some, sym}
 use Rattle.p3_challenger_core.specs.{Observation.{IsObservation, unrefused_observe}, Sampling.{IsSampling, unrefused_draw}}
 use Rattle.p3_challenger_core.specs.{ObservationLaws.unrefused_observe-is_observation}

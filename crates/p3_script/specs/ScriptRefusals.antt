@@ -1,4 +1,4 @@
--- Why the two sides refuse the steps of a script, without the suite's types.
+-- The refusals of the steps of a script by the two sides, without the suite's types.
 use Rattle.std.specs.Prelude.{ℕ, List, Option}
 use Rattle.p3_driver_core.specs.{Proving.RefusesToWrite, Reads.Reading, Transcripts.Meaning, Verifying.RefusesToRead}
 use Rattle.p3_fs_core.specs.{Steps.algebra_step, declared.step.Kind.Kind}
@@ -14,18 +14,19 @@ use Rattle.p3_driver_core.specs.Reads as reads
 use Rattle.p3_script.specs.declared.steps.Step as script
 use Rattle.p3_script.specs.declared.steps.Step.TheVariants as step
 
--- a value that is sent; and a list that may be so long at most
+-- a value is sent
 abbrev pub sides_of_value : {S Symbol F EF A : Type 0} → (Value F EF → Option A) → (A → Meaning S Symbol A) →
     Reading S Symbol A → Sides S F EF
 sides_of_value found sent reading = sides_sent found (λ x. RefusesToWrite (sent x)) (RefusesToRead reading)
 
+-- a list with a greatest length is sent
 abbrev pub sides_within : {S Symbol F EF A : Type 0} → (Value F EF → Option (List A)) → ℕ →
     (List A → Meaning S Symbol (List A)) → Reading S Symbol (List A) → Sides S F EF
 sides_within found max sent reading =
     sides_sent found (λ xs. RefusesToWriteWithin (list.length xs) max (sent xs)) (RefusesToRead reading)
 
 module _ {S Symbol I F EF O Ac : Type 0} (rules : Rules S Symbol I F EF O Ac) where
-  -- ---- what is sent: bytes, hints, elements of an algebra
+  -- ---- values that are sent: bytes, hints, elements of an algebra
 
   abbrev pub bytes_sides : Kind → List ℕ → ℕ → Sides S F EF
   bytes_sides kind label len = sides_of_value bytes_in (meaning.sent_bytes kind label rules.alphabet)
@@ -63,21 +64,22 @@ module _ {S Symbol I F EF O Ac : Type 0} (rules : Rules S Symbol I F EF O Ac) wh
       sides_within found max (meaning.sent_bounded some rules.alphabet max coding.observation coding.encoding)
       (reads.received_bounded some rules.alphabet max coding.observation coding.encoding)
 
-  -- ---- what both sides know, where a list may be of a wrong length
+  -- ---- lists that both sides know, which may have a wrong length
 
-  -- the verifier says first where it is not as long as the next step's
+  -- the verifier first compares the length of the list with that of the pattern's next step
   abbrev pub recorded_sides : {A : Type 0} → Coding S Symbol F A → Kind → List ℕ → List A → Sides S F EF
   recorded_sides coding kind label xs =
       let m = list_known rules coding kind label xs in sides_known (RefusesKept m) (RefusesAsRecorded (list.length xs) m)
 
-  -- it may be so long at most
+  -- the list has a greatest length
   abbrev pub counted_known_sides : {A : Type 0} → Coding S Symbol F A → Kind → List ℕ → List A → ℕ → Sides S F EF
   counted_known_sides coding kind label xs max =
       let m = counted_known rules coding kind label xs max in
       sides_known (RefusesWithin (list.length xs) max m) (RefusesCarriedWithin (list.length xs) max m)
 
-  -- ---- the steps of a script: of those that send nothing, most are refused alike on both sides
+  -- ---- the steps of a script
 
+  -- the refusals of a step: most steps that send nothing are refused alike on both sides
   abbrev pub sides_of : {Su U C K D G It St Sy : Type 0} → script.Step Su F EF U O C K Ac D G It St Sy → Sides S F EF
   sides_of (step.Salt label len) = bytes_sides kind.Salt label.now len
   sides_of (step.Bytes label len) = bytes_sides kind.Message label.now len

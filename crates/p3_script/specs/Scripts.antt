@@ -1,4 +1,4 @@
--- What the steps of a script mean, and what is sent, received and drawn at them, without the suite's types.
+-- The meaning of a script's steps, and what is sent, received and drawn at them, without the suite's types.
 use Rattle.std.specs.Prelude.{ℕ, ◌≤◌, List, [], ◌∷◌, map, Option, Some, None}
 use Rattle.p3_challenger_core.specs.Sampling.{Sampling}
 use Rattle.p3_fs_core.specs.{Steps.{algebra_step, Step, marker_of}, declared.step.Hierarchy.Hierarchy}
@@ -28,26 +28,26 @@ module _ {S Symbol I F EF O Ac : Type 0} (rules : Rules S Symbol I F EF O Ac) wh
   marks hierarchy label kind =
       known (marker_of hierarchy kind label rules.marker_name) no_challenge (untouched (tt {0})) Nothing
 
-  -- a value is observed as the challenger itself knows how
+  -- a value is observed in the challenger's own way
   abbrev pub knows_opaque : List ℕ → O → Play S Symbol F EF O
   knows_opaque label x =
       known (opaque_step kind.Message label lengths.Scalar) no_challenge (observing rules.opaque x) (Own x)
 
   -- ---- bytes
 
-  -- so many bytes are sent
+  -- len bytes are sent
   abbrev pub sends_bytes : Kind → List ℕ → ℕ → Play S Symbol F EF O
   sends_bytes kind label len =
       sends (bytes_step kind label (lengths.Fixed len)) bytes_in (HasLength len) (HasLength len)
       (meaning.sent_bytes kind label rules.alphabet) Bytes
 
-  -- at most so many, after their count
+  -- at most max bytes are sent, after their count
   abbrev pub sends_counted_bytes : List ℕ → ℕ → Play S Symbol F EF O
   sends_counted_bytes label max =
       sends (bytes_step kind.Message label (lengths.Bounded max)) bytes_in Any (HasAtMost max)
       (meaning.sent_bytes_bounded kind.Message label rules.alphabet max) Bytes
 
-  -- the same of bytes that the challenger takes no part in
+  -- len bytes are sent, or at most max bytes after their count, and the challenger does not observe them
   abbrev pub hints : List ℕ → ℕ → Play S Symbol F EF O
   hints label len = sends (bytes_step kind.Hint label (lengths.Fixed len)) bytes_in (HasLength len) (HasLength len)
       (meaning.hinted label) (λ _. Nothing)
@@ -56,7 +56,7 @@ module _ {S Symbol I F EF O Ac : Type 0} (rules : Rules S Symbol I F EF O Ac) wh
   hints_counted label max = sends (bytes_step kind.Hint label (lengths.Bounded max)) bytes_in Any (HasAtMost max)
       (meaning.hinted_bounded label max) (λ _. Nothing)
 
-  -- ---- elements of an algebra, of which each is absorbed as its coefficients
+  -- ---- elements of an algebra, each absorbed as its coefficients
 
   abbrev pub element_absorbed : {A : Type 0} → Coding S Symbol F A → A → Absorbed F O
   element_absorbed coding x = Elements (coding.coefficients x ∷ [])
@@ -64,7 +64,7 @@ module _ {S Symbol I F EF O Ac : Type 0} (rules : Rules S Symbol I F EF O Ac) wh
   abbrev pub elements_absorbed : {A : Type 0} → Coding S Symbol F A → List A → Absorbed F O
   elements_absorbed coding xs = Elements (map coding.coefficients xs)
 
-  -- both sides know one, or a list
+  -- both sides know one element, or a list of them
   abbrev pub knows_one : {A : Type 0} → Coding S Symbol F A → Kind → List ℕ → A → Play S Symbol F EF O
   knows_one coding kind label x = known (algebra_step kind label coding.algebra lengths.Scalar) no_challenge
       (observing coding.observation x) (element_absorbed coding x)
@@ -77,7 +77,7 @@ module _ {S Symbol I F EF O Ac : Type 0} (rules : Rules S Symbol I F EF O Ac) wh
   knows_list coding kind label xs =
       let m = list_known coding kind label xs in known m.interaction no_challenge m.effect (elements_absorbed coding xs)
 
-  -- a list of at most so many, after its count
+  -- both sides know a list of at most max elements, which follow their count
   abbrev pub counted_known : {A : Type 0} → Coding S Symbol F A → Kind → List ℕ → List A → ℕ → Meaning S Symbol (List A)
   counted_known coding kind label xs max = meaning.observed_bounded
       (algebra_step kind label coding.algebra (lengths.Bounded max)) rules.alphabet max coding.observation xs
@@ -87,7 +87,7 @@ module _ {S Symbol I F EF O Ac : Type 0} (rules : Rules S Symbol I F EF O Ac) wh
       let m = counted_known coding kind label xs max in
       known_within m.interaction (list.length xs) max m.effect (elements_absorbed coding xs)
 
-  -- one is sent, so many, or at most so many after their count
+  -- one element is sent, or exactly n elements, or at most max elements after their count
   abbrev pub sends_one : {A : Type 0} → Coding S Symbol F A → (Value F EF → Option A) → List ℕ → Play S Symbol F EF O
   sends_one coding found label =
       let one = algebra_step kind.Message label coding.algebra lengths.Scalar in
@@ -112,7 +112,7 @@ module _ {S Symbol I F EF O Ac : Type 0} (rules : Rules S Symbol I F EF O Ac) wh
 
   -- ---- challenges
 
-  -- through the codec, which has to be secure
+  -- one element is drawn through the codec, which has to be secure
   abbrev pub draws_one : {A : Type 0} → Coding S Symbol F A → (List A → Challenge F EF) → List ℕ → Play S Symbol F EF O
   draws_one coding make label = only_if rules.is_secure
       (known (algebra_step kind.Challenge label coding.algebra lengths.Scalar) (λ x. Some (make (x ∷ [])))
@@ -124,14 +124,14 @@ module _ {S Symbol I F EF O Ac : Type 0} (rules : Rules S Symbol I F EF O Ac) wh
       (known (algebra_step kind.Challenge label coding.algebra (lengths.Fixed n)) (λ xs. Some (make xs))
       (drawing_list coding.sampling n) Nothing)
 
-  -- elements that a rule takes
+  -- elements are drawn until a rule has accepted enough of them
   abbrev pub draws_extensions_rejecting : List ℕ → ℕ → Ac → ℕ → Play S Symbol F EF O
   draws_extensions_rejecting label n accept limit = only_if (rules.is_secure × (1 ≤ limit))
       (known (algebra_step kind.Challenge label rules.extension.algebra (lengths.Fixed n))
       (λ xs. Some (value.OfExtensions xs))
       (drawing_rejecting rules.extension.sampling (rules.accepts_extension accept) limit n) Nothing)
 
-  -- numbers of some bits
+  -- numbers of a given bit width are drawn
   abbrev pub draws_bits : Step → Type 0 → (ℕ → Sampling S ℕ) → ℕ → ℕ → Play S Symbol F EF O
   draws_bits interaction has d width n = only_if (has × (width ≤ rules.bits.most))
       (known interaction (λ xs. Some (value.OfBits xs)) (drawing_list (d width) n) Nothing)
@@ -151,7 +151,7 @@ module _ {S Symbol I F EF O Ac : Type 0} (rules : Rules S Symbol I F EF O Ac) wh
   abbrev pub is_work : ℕ → Type 0
   is_work bits = rules.grinding.is_there × (bits ≤ rules.bits.most)
 
-  -- whose witness the proof carries, or the caller
+  -- a proof of work, whose witness is in the proof or carried by the caller
   abbrev pub sends_work : List ℕ → ℕ → Play S Symbol F EF O
   sends_work label bits = only_if (is_work bits)
       (sends_witness (work_in label bits) rules.grinding.is_there rules.witness_encoding (witness_of bits))

@@ -1,9 +1,9 @@
--- The families of steps of scripts, by which functions over all kinds of steps are split.
+-- The families of script steps, by which functions over all kinds of steps are split.
 use Rattle.p3_script.specs.declared.steps.Step as script
 use Rattle.p3_script.specs.declared.steps.Step.TheVariants as step
 
 module _ {Su F EF U O C K Ac D G It St Sy : Type 0} where
-  -- nothing of it is sent: it is a marker, a value that both sides know, or a draw
+  -- the step sends nothing: it is a marker, a value that both sides know, or a draw
   abbrev pub SendsNothing : script.Step Su F EF U O C K Ac D G It St Sy → Type 0
   SendsNothing (step.Salt label len) = ⊥
   SendsNothing (step.Bytes label len) = ⊥
@@ -18,7 +18,7 @@ module _ {Su F EF U O C K Ac D G It St Sy : Type 0} where
   SendsNothing (step.ObservePow label bits) = ⊥
   SendsNothing _ = Unit {0}
 
-  -- it draws a challenge
+  -- the step draws a challenge
   abbrev pub Draws : script.Step Su F EF U O C K Ac D G It St Sy → Type 0
   Draws (step.ChallengeScalar label) = Unit {0}
   Draws (step.ChallengeScalars label n) = Unit {0}

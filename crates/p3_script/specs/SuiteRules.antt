@@ -1,4 +1,4 @@
--- What the definitions of a script read of its suite, from the members of the suite's types.
+-- What the definitions of a script take from its suite, by the members of the suite's types.
 use Rattle.std.specs.Prelude.{ℕ, ◌≤◌, IsTrue, codes}
 use Rattle.p3_fs_core.specs.{Steps.algebra_of, Alphabet.alphabet_of}
 use Rattle.p3_runs.specs.{Absorbed.alone, Rules.{BitDraws, Grinding, Rules}}
@@ -16,7 +16,7 @@ use Rattle.p3_script.specs.declared.accept.AcceptRule as accepting
 use Rattle.p3_script.specs.declared.groups.StepGroup as groups
 use Rattle.p3_symmetric.specs.declared.digest_hasher.DigestHasher as hashers
 
--- how a group of steps draws bits, and its proofs of work
+-- how a group of steps draws bits and does its proofs of work
 module _ {G C F S Symbol : Type 0} (group : groups.Ghosts G C F S Symbol) where
   abbrev pub bit_draws_of : BitDraws S
   bit_draws_of = record {
@@ -35,8 +35,9 @@ module _ {G C F S Symbol : Type 0} (group : groups.Ghosts G C F S Symbol) where
     may_run_out = group.may_run_out;
   }
 
--- the rules by which the steps of a suite's scripts mean something: how its scalars and its extension are coded, its
--- alphabet, how opaque values are observed, what its rejecting draws take, its bits, its proofs of work, its hash function
+-- The rules that give meaning to the steps of a suite's scripts. They are the codings of scalars and of its
+-- extension, the alphabet, the observation of opaque values, the acceptance rule, bits, proofs of work, and the
+-- hash function.
 abbrev pub rules_of : {Cdc C S Symbol F EF U I O Ac G D : Type 0} → codecs.Ghosts Cdc C F S Symbol → rings.Ghosts F →
     fields.Ghosts F → ℕ → identities.Ghosts F F → names.Ghosts F → spaces.Ghosts EF F → identities.Ghosts EF F →
     names.Ghosts EF → units.Ghosts U I → observers.Ghosts C I S Symbol → observers.Ghosts C O S Symbol → (O → Type 0) →

@@ -3,12 +3,13 @@ ghost use Rattle.std.specs.Prelude.{◌≡◌, true};
 ghost use Rattle.p3_driver_core.specs.Rejecting.{Rule};
 ghost use Rattle.p3_script.specs.Accepting.{is_new};
 
-/// A rule that says which candidates of a rejecting draw are kept. Not in the Rust crate, whose drivers take a closure.
+/// A rule that selects the candidates that a rejecting draw keeps. Not in the Rust crate, whose drivers take a closure.
 pub trait AcceptRule<T> {
     // What it takes, beside the candidates that were kept before.
     ghost rule: { Self → Rule T };
 
-    /// Whether the candidate is kept, beside those that were kept before it. It is a function of both.
+    /// Returns whether the candidate is kept, given those that were kept before it. The result depends on these two
+    /// alone.
     fn accepts(&self, candidate: &T, kept: &[T]) -> bool
         ensures { result ≡ rule self.now candidate.now kept.now };
 }
@@ -25,7 +26,7 @@ impl<T> AcceptRule<T> for AcceptAll {
     }
 }
 
-/// Keeps a candidate that is not among those that were kept before. Not in the Rust crate.
+/// Keeps a candidate that differs from all kept before it. Not in the Rust crate.
 #[derive(Clone, Copy, Debug)]
 pub struct Distinct;
 

@@ -1,4 +1,4 @@
-//! The steps that draw, as either side plays them.
+//! The steps that draw, for either side.
 ghost use Rattle.std.specs.Prelude.{◌≡◌, ◌≤◌, [], ◌∷◌, IsTrue, IfErr, IfOk, OnOk};
 ghost use Rattle.p3_driver_core.specs.Bound.{bound_value, bound_values};
 ghost use Rattle.p3_driver_core.specs.{Rejecting.drawn_rejecting, Transcripts.uniform_bits_step};
@@ -95,7 +95,7 @@ pub fn draw_scalar<S: Suite, P: Tape>(
     Ok(Drawn::Scalars(values))
 }
 
-/// Draws so many scalars.
+/// Draws `n` scalars.
 pub fn draw_scalars<S: Suite, P: Tape>(
     alloc: Global,
     driver: &mut DriverState<S::Challenger, S::Unit, S::Digest, P>,
@@ -126,7 +126,7 @@ pub fn draw_extension<S: Suite, P: Tape>(
     Ok(Drawn::Extensions(values))
 }
 
-/// Draws so many elements of the extension.
+/// Draws `n` elements of the extension.
 pub fn draw_extensions<S: Suite, P: Tape>(
     alloc: Global,
     driver: &mut DriverState<S::Challenger, S::Unit, S::Digest, P>,
@@ -142,7 +142,7 @@ pub fn draw_extensions<S: Suite, P: Tape>(
     Ok(Drawn::Extensions(values))
 }
 
-/// Draws elements of the extension until the rule has taken so many.
+/// Draws elements of the extension until the rule has accepted `n` of them.
 pub fn draw_extensions_rejecting<S: Suite, P: Tape>(
     alloc: Global,
     driver: &mut DriverState<S::Challenger, S::Unit, S::Digest, P>,
@@ -161,7 +161,7 @@ pub fn draw_extensions_rejecting<S: Suite, P: Tape>(
     Ok(Drawn::Extensions(values))
 }
 
-/// Draws so many numbers of so many bits.
+/// Draws `n` numbers of `width` bits.
 pub fn draw_bits<S: Suite, P: Tape>(
     alloc: Global,
     driver: &mut DriverState<S::Challenger, S::Unit, S::Digest, P>,
@@ -179,7 +179,7 @@ pub fn draw_bits<S: Suite, P: Tape>(
     Ok(Drawn::Bits(values))
 }
 
-/// Draws so many numbers of so many uniform bits.
+/// Draws `n` numbers of `width` uniform bits.
 pub fn draw_uniform_bits<S: Suite, P: Tape>(
     alloc: Global,
     driver: &mut DriverState<S::Challenger, S::Unit, S::Digest, P>,
@@ -197,7 +197,7 @@ pub fn draw_uniform_bits<S: Suite, P: Tape>(
     Ok(Drawn::Bits(values))
 }
 
-/// Draws numbers of so many uniform bits until the rule has taken so many.
+/// Draws numbers of `width` uniform bits until the rule has accepted `n` of them.
 pub fn draw_uniform_bits_rejecting<S: Suite, P: Tape>(
     alloc: Global,
     driver: &mut DriverState<S::Challenger, S::Unit, S::Digest, P>,

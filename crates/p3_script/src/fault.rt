@@ -2,12 +2,12 @@
 use p3_fs_core::TranscriptError;
 use thiserror::Error;
 
-/// Where a script is refused, and why. Not in the Rust crate.
+/// The position at which a script is refused, and the error. Not in the Rust crate.
 #[derive(Clone, Debug, PartialEq, Eq, Drop, Error)]
 #[error("step {position}: {error}")]
 pub struct Fault {
-    /// The position of the step, 0 while seeding, and the script's length at the end.
+    /// The index of the refused step; 0 while seeding, and the script's length at the end.
     pub position: usize,
-    /// The one error that is possible there, but when out of memory: the law [`faults_are_one`](crate::faults_are_one).
+    /// The only error possible there, except out of memory: see the law [`faults_are_one`](crate::faults_are_one).
     pub error: TranscriptError,
 }

@@ -5,12 +5,12 @@ use crate::laws::script_steps_are_lawful;
 use crate::reasons::script_steps_are_refused_for_one_reason;
 use crate::suite::{Meaning, Suite};
 
-/// A script of admitted steps is refused for one fault, on either side: any two [`Fault`](crate::Fault)s with which it
-/// is refused, to verifiers over the same bytes and carried witnesses, or to provers that are handed the same values,
-/// from one state of a challenger, have the same position, and their errors say the same, where neither is when out of
-/// memory.
+/// A script of admitted steps is refused for one fault, on either side. Take any two [`Fault`](crate::Fault)s, from
+/// one state of a challenger, neither of them out of memory. They may come from verifiers over the same bytes and
+/// carried witnesses, or from provers that are handed the same values. Then their positions are equal, and their
+/// errors say the same.
 ///
-/// A law: the body calls laws alone, and a caller cites the clauses. Not in the Rust crate.
+/// A law: the body only calls laws, and a caller cites the clauses. Not in the Rust crate.
 pub fn faults_are_one<S: Suite>()
     ensures verifying { let rules = ⟦<S as Meaning>⟧.rules S.Field.DIMENSION in
         ProofsHaveOneFault S S.Unit S.Challenger S.Codec S.Digest S.Group

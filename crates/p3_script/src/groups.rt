@@ -1,4 +1,4 @@
-//! The groups of steps that a challenger may have beside the plain ones: bits and proofs of work, and uniform bits.
+//! The optional groups of steps: bits and proofs of work, and uniform bits.
 ghost use Rattle.std.specs.Prelude.{◌≡◌, ◌≤◌, ℕ, Bool, IsTrue, IsErr};
 ghost use Rattle.p3_challenger_core.specs.{Observation.Observation, Reading.IsPrefixFree, Sampling.Sampling};
 ghost use Rattle.p3_driver_core.specs.{Verifying.{ChecksAndKeeps, ReceivesWork}, Effects.drawing_list};
@@ -25,17 +25,17 @@ use p3_field_core::ScalarField;
 use p3_fs_core::{Declared, Kind, Label, Length, PatternError, TranscriptError};
 use p3_symmetric::DigestHasher;
 
-/// A group of steps that a challenger has beside the plain ones: for each of them a function that calls the driver's
-/// method. Not in the Rust crate.
+/// A group of steps that a challenger supports in addition to the plain ones. Each of its functions calls the driver's method
+/// for one kind of step. Not in the Rust crate.
 ///
 /// There are three: [`Plain`], [`BitsPow`] and [`Both`].
 pub trait StepGroup<C: Sponge, F: ScalarField> {
-    /// It has steps of bits and of proof of work.
+    /// Whether the group has steps of bits and of proof of work.
     const HAS_POW: bool;
 
     ghost HAS_POW: { Bool };
 
-    /// It has steps of uniform bits.
+    /// Whether the group has steps of uniform bits.
     const HAS_UNIFORM: bool;
 
     ghost HAS_UNIFORM: { Bool };
@@ -54,7 +54,7 @@ pub trait StepGroup<C: Sponge, F: ScalarField> {
 
     ghost may_run_out: { C.State → Type 0 };
 
-    /// The most bits of one draw.
+    /// Returns the largest number of bits in one draw.
     fn max_bits() -> usize
         ensures { result ≡ most_bits };
 
@@ -88,10 +88,10 @@ pub trait StepGroup<C: Sponge, F: ScalarField> {
             (uniform_bits_step label.now width (Length.Fixed n)) (uniform_draws width) n)
             driver.old bound_values result driver.new };
 
-    /// Draws numbers of `width` uniform bits until the rule has taken `n`, on either side.
+    /// Draws numbers of `width` uniform bits until the rule has accepted `n`, on either side.
     ///
     /// Conditions: the group has uniform bits, `width` is at most [`max_bits`](StepGroup::max_bits), and the rule may
-    /// be asked at any time.
+    /// be called at any time.
     fn challenge_uniform_bits_rejecting<
         U,
         D: DigestHasher,
@@ -116,7 +116,7 @@ pub trait StepGroup<C: Sponge, F: ScalarField> {
         ensures kept { (driving_of C.state P.bytes driver.new).bytes
             ≡ (driving_of C.state P.bytes driver.old).bytes };
 
-    /// A prover searches for a witness, and sends it.
+    /// Searches for a witness and sends it, as the prover.
     ///
     /// Conditions: the group has proof of work, and `bits` is at most [`max_bits`](StepGroup::max_bits).
     fn pow<U, D: DigestHasher>(
@@ -131,7 +131,7 @@ pub trait StepGroup<C: Sponge, F: ScalarField> {
             (encoding F.residues F.bit_length) may_run_out
             (proving_of C.state prover.old) result (proving_of C.state prover.new) };
 
-    /// A prover searches for a witness, and answers it.
+    /// Searches for a witness and returns it, as the prover.
     ///
     /// Conditions: the group has proof of work, and `bits` is at most [`max_bits`](StepGroup::max_bits).
     fn observe_pow<U, D: DigestHasher>(
@@ -146,7 +146,7 @@ pub trait StepGroup<C: Sponge, F: ScalarField> {
             may_run_out
             (proving_of C.state prover.old) (λ x. x) result (proving_of C.state prover.new) };
 
-    /// A verifier reads a witness, and checks it.
+    /// Reads a witness and checks it, as the verifier.
     ///
     /// Conditions: the group has proof of work, and `bits` is at most [`max_bits`](StepGroup::max_bits).
     fn check_pow<U, D: DigestHasher>(
@@ -161,7 +161,7 @@ pub trait StepGroup<C: Sponge, F: ScalarField> {
             (encoding F.residues F.bit_length)
             (verifying_of C.state verifier.old) result (verifying_of C.state verifier.new) };
 
-    /// A verifier checks a witness that its caller carries.
+    /// Checks a witness that the verifier's caller supplies.
     ///
     /// Conditions: the group has proof of work, and `bits` is at most [`max_bits`](StepGroup::max_bits).
     fn check_carried_pow<U, D: DigestHasher>(
@@ -176,8 +176,8 @@ pub trait StepGroup<C: Sponge, F: ScalarField> {
             ChecksAndKeeps (work_of step F.residues before_witness witness bit_draws bits) carried
             (verifying_of C.state verifier.old) result (verifying_of C.state verifier.new) };
 
-    /// Draws of bits and checks of work are refused for the draw limit only where it is met, and a witness that a
-    /// prover has found passes. A law: the body does nothing.
+    /// Draws of bits and checks of work are refused for the draw limit only where it is met. A witness that a prover
+    /// has found passes. A law: the body does nothing.
     fn steps_are_lawful()
         ensures bits { IsTrue HAS_POW → (width n : ℕ) →
             TellsLimits {Symbol = C.Symbol} (drawing_list (bit_draws width) n) }
@@ -195,8 +195,8 @@ pub trait StepGroup<C: Sponge, F: ScalarField> {
         ensures carried { IsTrue HAS_POW → (step : Step) (bits : ℕ) (x : F) → CompletesCarriedWork
             (work_of step F.residues before_witness witness bit_draws bits) x };
 
-    /// Draws of bits and proofs of work are refused for one reason: any two errors from one state, neither of them for
-    /// being out of memory, say the same. A law: the body calls laws alone.
+    /// Draws of bits and proofs of work are refused for one reason. Any two errors from one state, neither of them out
+    /// of memory, say the same. A law: the body only calls laws.
     fn steps_are_refused_for_one_reason()
         ensures bits { IsTrue HAS_POW → (step : Step) (width n : ℕ) →
             HasOneReason {Symbol = C.Symbol} (meaning.drawn_list step (bit_draws width) n) }
@@ -220,7 +220,7 @@ pub trait StepGroup<C: Sponge, F: ScalarField> {
     ghost witnesses_prefix_free: { IsTrue HAS_POW → IsPrefixFree witness.symbols };
 }
 
-/// The plain steps alone: no bits, no proof of work. Not in the Rust crate.
+/// The plain steps alone, without bits and proofs of work. Not in the Rust crate.
 #[derive(Clone, Copy, Debug)]
 pub struct Plain;
 

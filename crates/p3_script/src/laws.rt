@@ -13,11 +13,11 @@ use p3_step_laws::{
     values_tell_limits,
 };
 
-/// What holds of every step of every script of a suite: its bytes and its carried witness tell its value, and so do
-/// what is sent and that a witness is the least one; and where it may be played each side refuses it only when out of
-/// memory.
+/// The laws of every step of every script of a suite. The bytes of a step and its carried witness determine its
+/// value. So does what is sent, together with the fact that a witness is the least one. Each side refuses a step that
+/// may be played only when out of memory.
 ///
-/// A law: the body calls laws alone, and a caller cites the clauses. Not in the Rust crate.
+/// A law: the body only calls laws, and a caller cites the clauses. Not in the Rust crate.
 pub fn script_steps_are_lawful<S: Suite>()
     ensures canonical { AreAllCanonical S S.Unit S.Challenger S.Codec S.Digest S.Group S.Unit.Item
         S.Challenger.State S.Challenger.Symbol (⟦<S as Meaning>⟧.rules S.Field.DIMENSION) }

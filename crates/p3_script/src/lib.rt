@@ -1,4 +1,5 @@
-//! Scripts: the steps of a protocol as data, which either driver plays. Here what a script is, and what its steps mean.
+//! Scripts: the steps of a protocol as data that either driver plays. This crate defines scripts and the meaning of
+//! steps.
 #![tactic(auto)]
 
 mod accept;

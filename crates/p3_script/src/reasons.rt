@@ -12,12 +12,12 @@ use p3_step_laws::{
     values_are_refused_for_one_reason, values_are_unread_for_one_reason,
 };
 
-/// An admitted step of a script of a suite is refused for one reason, on either side: any two errors with which it is
-/// refused from one state, to a verifier whose caller carries the same, or to a prover that is handed the same, say the
-/// same, where neither is when out of memory. So a [`Fault`](crate::Fault) names the one error that is possible at its
+/// An admitted step of a suite's script is refused for one reason, on either side. Take any two errors from one state,
+/// neither of them out of memory. The verifiers' callers carry the same witness, or the provers are handed the same
+/// value. Then the two errors say the same. So a [`Fault`](crate::Fault) names the only error that is possible at its
 /// state.
 ///
-/// A law: the body calls laws alone, and a caller cites the clause. Not in the Rust crate.
+/// A law: the body only calls laws, and a caller cites the clause. Not in the Rust crate.
 pub fn script_steps_are_refused_for_one_reason<S: Suite>()
     ensures { AreRefusedForOneReason S S.Unit S.Challenger S.Codec S.Digest S.Group S.Unit.Item
         S.Challenger.State S.Challenger.Symbol (⟦<S as Meaning>⟧.rules S.Field.DIMENSION) }

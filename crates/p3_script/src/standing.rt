@@ -5,20 +5,20 @@ use crate::steps::Step;
 use crate::suite::{Meaning, Suite};
 use p3_challenger_core::Sponge;
 
-/// Where the value of a step stands. Not in the Rust crate.
+/// Says where the value of a step stands. Not in the Rust crate.
 #[derive(Clone, Copy, Debug)]
 pub enum Standing {
-    /// It has none.
+    /// The step has no value.
     Nowhere,
-    /// The prover is handed it, and the proof carries it.
+    /// The prover is handed the value, and the proof carries it.
     Sent,
-    /// It is a witness, which the prover finds, and the proof carries it.
+    /// The value is a witness that the prover finds, and the proof carries it.
     Found,
-    /// It is a witness, which the prover finds, and the caller carries it to the verifier.
+    /// The value is a witness that the prover finds, and the caller carries it to the verifier.
     Carried,
 }
 
-/// Where the value of the step stands. Not in the Rust crate.
+/// Returns where the value of the step stands. Not in the Rust crate.
 pub fn standing_of<S: Suite>(step: &Step<S>) -> Standing
     ensures { StandsSo (play_of (⟦<S as Meaning>⟧.rules S.Field.DIMENSION) step.now) result }
 {

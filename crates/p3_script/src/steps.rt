@@ -2,140 +2,140 @@
 use crate::suite::Suite;
 use p3_fs_core::{Kind, Label};
 
-/// A step of a script: a call of one of the drivers' methods, with what that takes beside the values that are sent. Not
-/// in the Rust crate.
+/// A step of a script: a call of one driver method, with its arguments except the values that are sent. Not in the Rust
+/// crate.
 #[derive(Drop)]
 pub enum Step<S: Suite> {
-    /// A container is opened.
+    /// Opens a container.
     Begin {
         label: Label,
         kind: Kind,
     },
-    /// The innermost container is closed.
+    /// Closes the innermost container.
     End {
         label: Label,
         kind: Kind,
     },
-    /// So many bytes are sent that hide what is sent later.
+    /// Sends `len` bytes that hide what is sent later.
     Salt {
         label: Label,
         len: usize,
     },
-    /// So many bytes are sent.
+    /// Sends `len` bytes.
     Bytes {
         label: Label,
         len: usize,
     },
-    /// So many bytes are sent, which the challenger takes no part in.
+    /// Sends `len` bytes, which the challenger does not observe.
     Hint {
         label: Label,
         len: usize,
     },
-    /// At most so many bytes are sent, after their count.
+    /// Sends at most `max` bytes, after their count.
     BytesBounded {
         label: Label,
         max: usize,
     },
-    /// At most so many bytes are sent, after their count, which the challenger takes no part in.
+    /// Sends at most `max` bytes, after their count. The challenger does not observe them.
     HintBounded {
         label: Label,
         max: usize,
     },
-    /// A scalar is observed that both sides know.
+    /// Observes a scalar that both sides know.
     PublicScalar {
         label: Label,
         value: S::Field,
     },
-    /// Scalars are observed that both sides know.
+    /// Observes scalars that both sides know.
     PublicScalars {
         label: Label,
         values: Vec<S::Field>,
     },
-    /// At most so many scalars are observed, after their count, that both sides know.
+    /// Observes at most `max` scalars that both sides know, after their count.
     PublicScalarsBounded {
         label: Label,
         values: Vec<S::Field>,
         max: usize,
     },
-    /// A scalar is sent.
+    /// Sends a scalar.
     Scalar {
         label: Label,
     },
-    /// So many scalars are sent.
+    /// Sends `n` scalars.
     Scalars {
         label: Label,
         n: usize,
     },
-    /// At most so many scalars are sent, after their count.
+    /// Sends at most `max` scalars, after their count.
     ScalarsBounded {
         label: Label,
         max: usize,
     },
-    /// An element of the extension is sent.
+    /// Sends an element of the extension.
     Extension {
         label: Label,
     },
-    /// An element of the extension is observed that the proof does not carry.
+    /// Observes an element of the extension that the proof does not carry.
     ObserveExtension {
         label: Label,
         value: S::Extension,
     },
-    /// Elements of the extension are observed that the proof does not carry.
+    /// Observes elements of the extension that the proof does not carry.
     ObserveExtensions {
         label: Label,
         values: Vec<S::Extension>,
     },
-    /// At most so many elements of the extension are observed, after their count, that the proof does not carry.
+    /// Observes at most `max` elements of the extension that the proof does not carry, after their count.
     ObserveExtensionsBounded {
         label: Label,
         values: Vec<S::Extension>,
         max: usize,
     },
-    /// A value is observed as the challenger itself knows how, which the proof does not carry.
+    /// Observes a value that the proof does not carry, in the challenger's own way.
     Opaque {
         label: Label,
         value: S::Opaque,
     },
-    /// A scalar is drawn.
+    /// Draws a scalar.
     ChallengeScalar {
         label: Label,
     },
-    /// So many scalars are drawn.
+    /// Draws `n` scalars.
     ChallengeScalars {
         label: Label,
         n: usize,
     },
-    /// An element of the extension is drawn.
+    /// Draws an element of the extension.
     ChallengeExtension {
         label: Label,
     },
-    /// So many elements of the extension are drawn.
+    /// Draws `n` elements of the extension.
     ChallengeExtensions {
         label: Label,
         n: usize,
     },
-    /// Elements of the extension are drawn until the rule has taken `n` of them. After `limit` in a row that it refused
-    /// the draw limit is met.
+    /// Draws elements of the extension until the rule has accepted `n` of them. The draw limit is met once the rule has
+    /// refused `limit` elements in a row.
     ChallengeExtensionsRejecting {
         label: Label,
         n: usize,
         accept: S::Accept,
         limit: u64,
     },
-    /// `n` numbers of `width` bits are drawn.
+    /// Draws `n` numbers of `width` bits.
     ChallengeBits {
         label: Label,
         width: usize,
         n: usize,
     },
-    /// `n` numbers of `width` uniform bits are drawn.
+    /// Draws `n` numbers of `width` uniform bits.
     ChallengeUniformBits {
         label: Label,
         width: usize,
         n: usize,
     },
-    /// Numbers of `width` uniform bits are drawn until the rule has taken `n` of them. After `limit` in a row that it
-    /// refused the draw limit is met.
+    /// Draws numbers of `width` uniform bits until the rule has accepted `n` of them. The draw limit is met once the
+    /// rule has refused `limit` numbers in a row.
     ChallengeUniformBitsRejecting {
         label: Label,
         width: usize,
@@ -143,12 +143,12 @@ pub enum Step<S: Suite> {
         accept: S::Accept,
         limit: u64,
     },
-    /// A proof of work of so many bits, whose witness the proof carries.
+    /// Does a proof of work of `bits` bits, whose witness the proof carries.
     Pow {
         label: Label,
         bits: usize,
     },
-    /// A proof of work of so many bits, whose witness the caller carries to the verifier.
+    /// Does a proof of work of `bits` bits, whose witness the caller carries to the verifier.
     ObservePow {
         label: Label,
         bits: usize,
@@ -168,7 +168,7 @@ pub enum Sent<S: Suite> {
     Extension(S::Extension),
 }
 
-/// What a verifier receives at a step. Bytes are lent of the proof. Not in the Rust crate.
+/// What a verifier receives at a step. Bytes are borrowed from the proof. Not in the Rust crate.
 #[derive(Drop)]
 pub enum Received<'a, S: Suite> {
     /// At `Salt`, `Bytes`, `Hint`, `BytesBounded` and `HintBounded`.
@@ -183,7 +183,7 @@ pub enum Received<'a, S: Suite> {
     Witness(S::Field),
 }
 
-/// What is drawn at a step, as a list also where it is one value. Not in the Rust crate.
+/// What is drawn at a step: always a list, even of a single value. Not in the Rust crate.
 #[derive(Drop)]
 pub enum Drawn<S: Suite> {
     /// At `ChallengeScalar` and `ChallengeScalars`.

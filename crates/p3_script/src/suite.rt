@@ -21,7 +21,7 @@ pub trait Suite {
     /// The alphabet of the challenger.
     type Unit: Unit;
 
-    /// What the challenger itself knows how to observe. Clones of a value equal it.
+    /// The values that the challenger observes in its own way. A clone of a value equals the value.
     type Opaque: Clone + Drop;
 
     /// The challenger.
@@ -30,13 +30,13 @@ pub trait Suite {
     /// How scalars are encoded, observed and drawn.
     type Codec: ScalarCodec<Self::Challenger, Self::Field>;
 
-    /// The rules of draws that may be rejected.
+    /// The acceptance rules of rejecting draws.
     type Accept: AcceptRule<Self::Extension> + AcceptRule<usize> + Drop;
 
-    /// The hash function of the digests of algebras and of the pattern.
+    /// The hash function for the digests of algebras and of the pattern.
     type Digest: DigestHasher;
 
-    /// Which steps there are beside the plain ones.
+    /// The group of steps available in addition to the plain ones.
     type Group: StepGroup<Self::Challenger, Self::Field>;
 
     // What is a value of the opaque type, where the type does not say it itself: an array in a contract is a list of
@@ -50,7 +50,7 @@ pub trait Suite {
     ghost clones: { (x copy : Self.Opaque) → Self.Opaque.is_clone x copy → copy ≡ x };
 }
 
-/// What definitions read of a suite. Every suite has it. Not in the Rust crate.
+/// What definitions read from a suite. Every suite implements this trait. Not in the Rust crate.
 pub trait Meaning: Suite {
     // By how many coefficients a scalar has over its own field. By the bound of the suite that is `S.Field.DIMENSION`,
     // which drivers name; a member of an impl cannot name it.

@@ -11,8 +11,8 @@ use Rattle.p3_runs.specs.Runs as runs
 use Rattle.p3_script.specs.declared.steps.Step as step
 use Rattle.p3_script_answers.specs.declared.errors.ProveByError.TheVariants as error
 
--- It is the turn of this step, which sends a value: the prover's run of the steps before it is finished, which was handed these
--- values and drew these challenges.
+-- It is the turn of this step, which sends a value. The prover has finished a run of the steps before, for which it was
+-- handed these values and drew these challenges.
 pub record IsTurn {X S Symbol I F EF O Ac U D : Type 0} (rules : Rules S Symbol I F EF O Ac) (play : X → Play S Symbol F EF O)
     (script : Run X F EF S U D) (given : List (Value F EF)) (drawn : List (Challenge F EF)) (position : ℕ) (step : X) :
     Type 0 where
@@ -31,7 +31,8 @@ module _ {Su F EF U O C K Ac D G It St Sy P E : Type 0} (rules : Rules St Sy It 
     (script : Run (step.Step Su F EF U O C K Ac D G It St Sy) F EF St U D)
     (answers : P → ℕ → Bor (List (Drawn Su F EF U O C K Ac D G It St Sy)) →
     Result (Sent Su F EF U O C K Ac D G It St Sy) E → P → Type 0) where
-  -- From one state to another it answers the step whose turn it is after these values, and is lent what was drawn before.
+  -- From one state to another, the caller answers the step whose turn comes after these values, and borrows the earlier
+  -- draws.
   pub record AnswersTurn (given : List (Sent Su F EF U O C K Ac D G It St Sy)) (position : ℕ) (here : P)
       (answer : Result (Sent Su F EF U O C K Ac D G It St Sy) E) (there : P) : Type 0 where
     pub drawn : Bor (List (Drawn Su F EF U O C K Ac D G It St Sy))
@@ -39,26 +40,26 @@ module _ {Su F EF U O C K Ac D G It St Sy P E : Type 0} (rules : Rules St Sy It 
     pub turn : IsTurn rules (play_of rules) script (values_sent given) (challenges_of drawn.now) position step
     pub answered : answers here position drawn answer there
 
-  -- From one state to another it answers these values after those that were given, each at its turn.
+  -- From one state to another, the caller answers these values after those already given, each at its turn.
   abbrev pub AnswersInTurn : List (Sent Su F EF U O C K Ac D G It St Sy) → P →
       List (Sent Su F EF U O C K Ac D G It St Sy) → P → Type 0
   AnswersInTurn given here [] last = last ≡ here
   AnswersInTurn given here (x ∷ sent) last = (position : ℕ) × (there : P)
       × AnswersTurn given position here (Ok x) there × AnswersInTurn (given ++ x ∷ []) there sent last
 
-  -- these are the values that it answered from the first one on, each at its turn
+  -- the caller answered these values from the first one on, each at its turn
   pub record AreAnswers (first : P) (sent : List (Sent Su F EF U O C K Ac D G It St Sy)) : Type 0 where
     pub last : P
     pub in_turn : AnswersInTurn [] first sent last
 
   -- ---- where and why it stops
 
-  -- each list of values that begins with these is refused so; where all steps were played, these alone
+  -- each list that begins with these values is refused so; where all steps were played, these alone
   abbrev pub AreRefused : List (Sent Su F EF U O C K Ac D G It St Sy) → Fault → Type 0
   AreRefused given fault = (later : List (Value F EF)) → (length script.steps ≤ fault.position → later ≡ []) →
       IsRefusedScript rules script (values_sent given ++ later) fault
 
-  -- the answer to the step whose turn it is may not be handed for it
+  -- the answer to the step whose turn it is does not fit the step
   pub record AnswersUnfit (given : List (Sent Su F EF U O C K Ac D G It St Sy)) (position : ℕ) (here : P) : Type 0 where
     pub value : Sent Su F EF U O C K Ac D G It St Sy
     pub there : P
@@ -70,7 +71,7 @@ module _ {Su F EF U O C K Ac D G It St Sy P E : Type 0} (rules : Rules St Sy It 
   StopsAfter given here (error.Unanswered position e) = (there : P) × AnswersTurn given position here (Err e) there
   StopsAfter given here (error.Unfit position) = AnswersUnfit given position here
 
-  -- it answered values from the first one on, each at its turn, and after them the prover stops for this
+  -- the caller answered values from the first one on, each at its turn, and then the prover stops with this error
   pub record IsStopped (first : P) (e : ProveByError E) : Type 0 where
     pub given : List (Sent Su F EF U O C K Ac D G It St Sy)
     pub last : P

@@ -1,4 +1,4 @@
--- One step of a script, of a prover that asks for its value.
+-- One step of a script, for a prover that asks for the step's value.
 use Rattle.std.specs.{Borrow.Bor, Prelude.{◌≡◌, ℕ, List, [], ◌++◌, Option, Some, None, Result, MatchResult, Ok, Err}}
 use Rattle.p3_fs_core.specs.declared.error.TranscriptError.{TranscriptError}
 use Rattle.p3_driver_core.specs.Driving.{Driving}
@@ -9,7 +9,7 @@ use Rattle.p3_script_answers.specs.declared.errors.ProveByError.{ProveByError}
 use Rattle.p3_runs.specs.Plays as place
 use Rattle.p3_script_answers.specs.declared.errors.ProveByError.TheVariants as error
 
--- The step is played with this value, or the witness that was found, and what comes of it is kept.
+-- The step is played with this value, or with the witness found, and its results are kept.
 pub record PlaysWith {S Symbol F EF O : Type 0} (play : Play S Symbol F EF O) (given : Value F EF) (here there : Driving S)
     (witnesses0 witnesses1 carried0 carried1 : List F) (drawn0 drawn1 : List (Challenge F EF)) : Type 0 where
   pub witness : Option F
@@ -19,7 +19,7 @@ pub record PlaysWith {S Symbol F EF O : Type 0} (play : Play S Symbol F EF O) (g
   pub carried_is : carried1 ≡ carried0 ++ where_carried play.place (one_of witness)
   pub drawn_is : drawn1 ≡ drawn0 ++ if_drawn (Some drawn)
 
--- It is, or it is refused, or memory was refused for what comes of it.
+-- The step is played, or it is refused, or memory for its results was refused.
 pub record PlaysOrRefuses {S Symbol F EF O R : Type 0} (play : Play S Symbol F EF O) (sides : Sides S F EF)
     (given : Value F EF) (here : Driving S) (witnesses0 carried0 : List F) (drawn0 : List (Challenge F EF))
     (result : Result R TranscriptError) (there : Driving S) (witnesses1 carried1 : List F)
@@ -29,13 +29,13 @@ pub record PlaysOrRefuses {S Symbol F EF O R : Type 0} (play : Play S Symbol F E
       (λ e. OrHalts (sides.prover given) here e there)
 
 module _ {Su F EF U O C K Ac D G It St Sy : Type 0} where
-  -- what was answered for a step, as a value
+  -- the answer for a step, as a value
   abbrev pub value_answered : Option (Sent Su F EF U O C K Ac D G It St Sy) → Value F EF
   value_answered None = Nothing
   value_answered (Some x) = value_sent x
 
   module _ {S Symbol : Type 0} (play : Play S Symbol F EF O) where
-    -- this may be answered for the step: a value that may be handed for it, or nothing where it sends none
+    -- this is a valid answer for the step: a value that fits it, or nothing where the step sends none
     abbrev pub Answers : Option (Sent Su F EF U O C K Ac D G It St Sy) → Type 0
     Answers None = ((v : Value F EF) → if_sent play.place v ≡ []) × play.IsHanded Nothing
     Answers (Some x) = (play.place ≡ place.Sent) × play.IsHanded (value_sent x)
@@ -46,14 +46,14 @@ module _ {Su F EF U O C K Ac D G It St Sy : Type 0} where
     module _ {P E : Type 0} (answers : P → ℕ → Bor (List (Drawn Su F EF U O C K Ac D G It St Sy)) →
         Result (Sent Su F EF U O C K Ac D G It St Sy) E → P → Type 0) (position : ℕ)
         (drawn : Bor (List (Drawn Su F EF U O C K Ac D G It St Sy))) (here there : P) where
-      -- it is asked here, and its value may not be handed for the step
+      -- the caller is asked at this step, and its value does not fit the step
       pub record AnswersUnfitly : Type 0 where
         pub value : Sent Su F EF U O C K Ac D G It St Sy
         pub answered : answers here position drawn (Ok value) there
         pub unfit : play.IsHanded (value_sent value) → ⊥
 
-      -- It is asked once where the step sends a value, and not at all where it sends none: what it answers may be answered
-      -- for the step, or is why there is no answer.
+      -- The caller is asked once where the step sends a value, and never where it sends none. Its result is a valid
+      -- answer for the step, or the reason why there is no answer.
       abbrev pub Comes : Result (Option (Sent Su F EF U O C K Ac D G It St Sy)) (ProveByError E) → Type 0
       Comes (Ok None) = Answers None × (there ≡ here)
       Comes (Ok (Some x)) = Answers (Some x) × answers here position drawn (Ok x) there

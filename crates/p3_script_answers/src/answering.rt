@@ -1,4 +1,4 @@
-//! Whole scripts, as a prover plays them whose messages depend on the challenges.
+//! Whole scripts, for a prover whose messages depend on the challenges.
 ghost use Rattle.std.specs.Prelude.{◌≡◌, IfOk, IfErr};
 ghost use Rattle.p3_runs.specs.{Runs.AreAdmitted, Verdicts.script_of};
 ghost use Rattle.p3_script.specs.Scripts.{play_of, values_sent};
@@ -18,38 +18,38 @@ use p3_script_prover::Proved;
 use p3_symmetric::DigestHasher;
 use std::alloc::Global;
 
-/// What was proved, and the values that were answered for it. Not in the Rust crate.
+/// A proof, and the values that were answered for it. Not in the Rust crate.
 #[derive(Drop)]
 pub struct Answered<S: Suite> {
-    /// What [`prove`](p3_script_prover::prove) answers for the values.
+    /// What [`prove`](p3_script_prover::prove) returns for the values.
     pub proved: Proved<S>,
 
     /// The values that were answered, in the order of their steps.
     pub sent: Vec<Sent<S>>,
 }
 
-/// Plays a script from its first step to its last, as the prover, and asks for each value when its step comes: for
-/// protocols whose messages depend on the challenges.
+/// Plays a script from its first step to its last, as the prover, and asks for each value when its step comes. This
+/// serves protocols whose messages depend on the challenges.
 ///
 /// `answers(position, challenges)` is called once for each step that sends a value, in the order of the steps, and
-/// for no other. `position` is the step's, in `steps`, and `challenges` is all that was drawn before it, in order.
-/// What it gives is sent as it is, and it may change from call to call. Nothing is asked of it: it may give another
-/// value than the protocol has, or none.
+/// for no other. `position` is the index of the step in `steps`, and `challenges` has everything drawn before it, in
+/// order. The returned value is sent as it is, and may change from call to call. The closure may return anything:
+/// another value than the protocol's, or an error.
 ///
-/// On `Ok` the values that it gave are [`Answered::sent`], in order, and [`Answered::proved`] is what
-/// [`prove`](p3_script_prover::prove) promises for just these values; so `verify_proved` takes the two.
+/// On `Ok` the returned values are [`Answered::sent`], in order. [`Answered::proved`] is what
+/// [`prove`](p3_script_prover::prove) promises for just these values, so `verify_proved` accepts the two.
 ///
 /// The errors:
 ///
-/// - [`ProveByError::Refused`]: the [`Fault`] of [`prove`](p3_script_prover::prove), which it has for each list of
-///   values that begins with those given until then. Its position is that of the step that was refused, 0 also where
-///   the seed was, and the number of the steps where the end was. Being out of memory is one too, also for a value
-///   that is to be kept.
-/// - [`ProveByError::Unanswered`]: it gave an error for the step at this position, which is carried on.
-/// - [`ProveByError::Unfit`]: its value for the step at this position is not of the step's type or, where the step
-///   says so, not of its length. Nothing of it was sent.
+/// - [`ProveByError::Refused`]: the [`Fault`] of [`prove`](p3_script_prover::prove) for every list that begins with
+///   the values given so far. Its position is that of the refused step, 0 for the seed, and the number of steps for
+///   the end. A refused allocation for a value to keep is such a fault too.
+/// - [`ProveByError::Unanswered`]: `answers` returned an error for the step at this position; the variant carries
+///   it.
+/// - [`ProveByError::Unfit`]: the value for the step at this position is not of the step's type or, where the step
+///   fixes a length, not of that length. Nothing of it was sent.
 ///
-/// After each of them it is not called again; the challenger is gone then, and the proof and the values so far.
+/// After each error `answers` is not called again, and the challenger, the proof and the values so far are dropped.
 ///
 /// Conditions: each step may be played by this suite, and `answers` may always be called. Not in the Rust crate.
 pub fn prove_by<S: Suite, E: Drop, F: FnMut(usize, &[Drawn<S>]) -> Result<Sent<S>, E>>(

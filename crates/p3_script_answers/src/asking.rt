@@ -1,4 +1,4 @@
-//! A step's value is asked for.
+//! Asking for the value of a step.
 ghost use Rattle.std.specs.Prelude.{◌↔◌, IsTrue};
 ghost use Rattle.p3_script.specs.Scripts.{play_of, value_sent};
 ghost use Rattle.p3_script_answers.specs.Turns.{IsAsked};

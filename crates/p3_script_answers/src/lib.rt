@@ -1,4 +1,4 @@
-//! Scripts, as a prover plays them whose messages depend on the challenges.
+//! Proving scripts whose messages depend on the challenges.
 //!
 //! ```text
 //! steps  ->  prove_by  ->  the proof, and the values
@@ -8,12 +8,12 @@
 //!            answers
 //! ```
 //!
-//! [`prove`](p3_script_prover::prove) is handed all values before it begins. [`prove_by`] is handed a closure, and
-//! asks it for each value when its step comes. The closure sees what was drawn before: a prover of FRI folds its layer
-//! by that, and gives the root of what comes of it.
+//! [`prove`](p3_script_prover::prove) is handed all values before it begins. [`prove_by`] is handed a closure, which
+//! it asks for each value at its step. The closure sees everything drawn before: a FRI prover folds its layer by the
+//! last challenge, and answers the Merkle root of the result.
 //!
-//! What is proved is of any closure, honest or not: the answer is that of `prove` for the values that were given, and
-//! each of these was given to just the challenges that were drawn before its place. Not in the Rust crate.
+//! The contract holds for any closure, honest or not. The result is that of `prove` for the returned values, and each
+//! value was given to exactly the challenges drawn before its place. Not in the Rust crate.
 #![tactic(auto)]
 
 mod answering;

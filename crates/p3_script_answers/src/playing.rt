@@ -1,4 +1,4 @@
-//! A step is played with what was answered for it, and what comes of it is kept.
+//! Playing a step with the answer for it, and keeping the results.
 ghost use Rattle.std.specs.Prelude.{◌≡◌, ◌++◌, [], OnOk};
 ghost use Rattle.p3_drivers.specs.Drivers.{proving_of};
 ghost use Rattle.p3_runs.specs.Stepping.{one_of};

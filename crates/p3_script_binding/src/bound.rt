@@ -1,4 +1,4 @@
-//! Answers whose runs fed the same symbols.
+//! Results whose runs fed the same symbols.
 ghost use Rattle.p3_challenger_core.specs.Reading.{IsPrefixCodeOn};
 ghost use Rattle.p3_script_binding.specs.AnswersBound.{EqualSymbolsHaveEqualValues, VerifiedFrontsBind};
 ghost use Rattle.p3_script_binding.specs.AnswersBound.{ProvedFrontsBind};
@@ -6,14 +6,14 @@ ghost use Rattle.p3_script_binding.specs.AnswersBound.{ProvedFrontsBind};
 use p3_binding::binding;
 use p3_script::{Meaning, Suite};
 
-/// Two proofs of one script that a verifier accepted, from one state of a challenger and under one separator, and whose
-/// runs fed the same symbols, have the same values: what was received is the same but for hints and witnesses of 0 bits,
-/// and the challenges and final challengers are the same.
+/// Accepted proofs whose runs fed the same symbols have the same values. Both proofs are of one script, under one
+/// separator and from one state of a challenger. What was received is the same except for hints and witnesses of 0
+/// bits. The challenges are the same, and so are the final challengers.
 ///
 /// Conditions: those of [`binding`]; that the proofs are bytes, which slices are; and that the script's opaque values are
 /// of their type.
 ///
-/// A law: the body calls a law alone, and a caller cites the clause. Not in the Rust crate.
+/// A law: the body only calls a law, and a caller cites the clause. Not in the Rust crate.
 pub fn equal_symbols_have_equal_values<S: Suite>()
     requires items { IsPrefixCodeOn S.Unit.is_item S.Challenger.CanObserve-1.observation.symbols }
     requires values { S.Codec.feeds_prefix_code }
@@ -25,19 +25,19 @@ pub fn equal_symbols_have_equal_values<S: Suite>()
     binding::<S>();
 }
 
-/// What was fed before a challenge binds all that came before it. Take two accepted proofs, of any scripts, under any
-/// separators, from any challengers. Where the first `n` steps of their runs fed the same symbols, which is all that a
-/// challenge after them comes of, the protocols and instances are the same, the patterns are the same but for the names of
-/// types, and so is what each of these steps absorbed, unless the alternate renderings of the patterns differ and share a
-/// digest. The same is so of two proofs that provers made.
+/// The symbols fed before a challenge bind everything that came before it. Take two accepted proofs, of any scripts,
+/// under any separators, from any challengers, where the first `n` steps of their runs fed the same symbols. A
+/// challenge after these steps depends on those symbols alone. Then protocols and instances are the same. Unless the
+/// alternate renderings of the patterns differ and share a digest, the patterns are the same except for the names of
+/// types. So is what each of these steps absorbed. The same holds for two proofs that provers made.
 ///
-/// So what was fed before a challenge is bound. That different symbols lead to different challenges is what the
-/// challenger's hash function or permutation is trusted for: a short challenge alone, of 31 bits say, binds nothing.
+/// That different symbols lead to different challenges is an assumption about the challenger's hash function or
+/// permutation. A single short challenge, of 31 bits say, binds nothing.
 ///
 /// Conditions: those of [`binding`]; that the proofs are bytes, which slices and vectors are; and that the scripts' opaque
 /// values are of their type.
 ///
-/// A law: the body calls a law alone, and a caller cites a clause. Not in the Rust crate.
+/// A law: the body only calls a law, and a caller cites a clause. Not in the Rust crate.
 pub fn challenges_bind_what_came_before<S: Suite>()
     requires items { IsPrefixCodeOn S.Unit.is_item S.Challenger.CanObserve-1.observation.symbols }
     requires values { S.Codec.feeds_prefix_code }

@@ -1,4 +1,4 @@
-//! What the symbols that a run of a script fed say of the answers of a verifier and of a prover: callers of the law that
+//! The symbols fed by a script's run bind the results of a verifier and of a prover: callers of the law that
 //! equal symbols bind.
 #![tactic(auto)]
 

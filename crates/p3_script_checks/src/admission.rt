@@ -7,11 +7,11 @@ use p3_challenger_core::Sponge;
 use p3_codecs::{Codec, MIN_CHALLENGE_SECURITY_BITS};
 use p3_script::{Meaning, Step, StepGroup, Suite};
 
-/// Whether each step may be played by the suite: its group has the step, a draw or a proof of work is of no more bits
-/// than the challenger draws at once, a limit is at least 1, and where a step draws through the codec, that has at least
-/// 128 bits of security.
+/// Returns whether the suite can play each step. The suite's group has to have the step. A draw or a proof of work has
+/// at most as many bits as the challenger draws at once. A limit is at least 1. Where a step draws through the codec,
+/// the codec has at least 128 bits of security.
 ///
-/// It is what the functions that play a script ask of its steps. Not in the Rust crate.
+/// The functions that play a script require this of its steps. Not in the Rust crate.
 pub fn admitted<S: Suite>(steps: &[Step<S>]) -> bool
     ensures { let rules = ⟦<S as Meaning>⟧.rules S.Field.DIMENSION in
         IsTrue result ↔ AreAdmitted (play_of rules) steps.now }

@@ -1,4 +1,4 @@
-//! The pattern of a script, and whether the steps of a script are those of a pattern.
+//! The pattern of a script, and whether a script's steps are those of a given pattern.
 ghost use Rattle.std.specs.Prelude.{◌≡◌, ◌↔◌, ◌⊎◌, IsTrue, IfOk, IfErr, length, map};
 ghost use Rattle.p3_driver_core.specs.Transcripts.{bytes_step, bits_step, uniform_bits_step};
 ghost use Rattle.p3_fs_core.specs.{Steps.{NamedAlgebra, algebra_step, marker_of}, Interactions.step_of};
@@ -25,8 +25,8 @@ struct Carriers {
     extensions: Interaction,
 }
 
-/// Whether the script plays the whole pattern: its steps may be played by the suite, as [`admitted`] says, and they are
-/// the pattern's, in order.
+/// Returns whether the script plays the whole pattern: [`admitted`] holds for its steps, and they are the pattern's, in
+/// order.
 ///
 /// Not in the Rust crate.
 pub fn fits<S: Suite>(steps: &[Step<S>], pattern: &InteractionPattern) -> bool
@@ -43,11 +43,11 @@ pub fn fits<S: Suite>(steps: &[Step<S>], pattern: &InteractionPattern) -> bool
     are_steps(&carriers_of::<S>(), steps, pattern.interactions())
 }
 
-/// The pattern of the script: what its steps play, in order. The script [`fits`] it exactly where the suite may play the
-/// steps, as [`admitted`] says.
+/// Returns the pattern of the script: the interactions that its steps play, in order. The script [`fits`] it exactly
+/// where [`admitted`] holds for the steps.
 ///
-/// Steps that are no pattern are refused with their first fault, as [`InteractionPattern::new`] refuses them; steps that are
-/// one are refused only with [`TranscriptError::OutOfMemory`]. Not in the Rust crate.
+/// Steps that form no pattern are refused with their first fault, as by [`InteractionPattern::new`]. Steps that form a
+/// pattern are refused only with [`TranscriptError::OutOfMemory`]. Not in the Rust crate.
 pub fn pattern<S: Suite>(
     alloc: Global,
     steps: &[Step<S>],

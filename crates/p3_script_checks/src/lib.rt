@@ -1,5 +1,5 @@
-//! What a caller can ask of a script before it is played: its pattern, whether a suite plays its steps and they are those of
-//! a pattern, whether values are right to send, and how many witnesses are carried.
+//! Questions about a script that is not played yet. What is its pattern? Can a suite play its steps, and are they those
+//! of a given pattern? Are given values right to send, and how many witnesses are carried?
 #![tactic(auto)]
 
 mod admission;

@@ -1,4 +1,4 @@
-//! Whether values are right to send at the steps of a script, and how many witnesses its caller carries.
+//! Whether values are right to send at a script's steps, and how many witnesses the verifier's caller carries.
 ghost use Rattle.std.specs.Prelude.{◌≡◌, ◌↔◌, IsTrue};
 ghost use Rattle.p3_runs.specs.{Provings.AreHanded, Runs.carried_count};
 ghost use Rattle.p3_script.specs.Scripts.{play_of, value_sent, values_sent};
@@ -7,10 +7,10 @@ ghost use Rattle.p3_script_checks.specs.Places.{is_handed_at, is_carried_at};
 use p3_challenger_core::Sponge;
 use p3_script::{Meaning, Sent, Standing, Step, Suite, standing_of};
 
-/// Whether these are values to hand to a prover for the steps: there is one for each step that sends one, in the order of
-/// the steps, each of its step's type and, where the step says how long it is, of that length.
+/// Returns whether these values can be handed to a prover for the steps. There is one for each step that sends one, in
+/// the order of the steps. Each is of its step's type and, where the step fixes a length, of that length.
 ///
-/// It is what `prove` asks of its values. Not in the Rust crate.
+/// `prove` requires this of its values. Not in the Rust crate.
 pub fn sent_matches<S: Suite>(steps: &[Step<S>], sent: &[Sent<S>]) -> bool
     ensures { let rules = ⟦<S as Meaning>⟧.rules S.Field.DIMENSION in
         IsTrue result ↔ AreHanded (play_of rules) steps.now (values_sent sent.now) }
@@ -27,7 +27,7 @@ pub fn sent_matches<S: Suite>(steps: &[Step<S>], sent: &[Sent<S>]) -> bool
     at == sent.len()
 }
 
-/// How many witnesses a verifier's caller carries to the steps: one to each `ObservePow`.
+/// Returns how many witnesses a verifier's caller carries to the steps: one for each `ObservePow`.
 ///
 /// Not in the Rust crate.
 pub fn carried_len<S: Suite>(steps: &[Step<S>]) -> usize

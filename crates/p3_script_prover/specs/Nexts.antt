@@ -1,4 +1,4 @@
--- The next step of a script, as a prover plays it with the values that it is handed.
+-- The next step of a script, for a prover that is handed all values.
 use Rattle.std.specs.{Borrow.Bor, Prelude.{◌≡◌, ℕ, ◌+◌, List, [], ◌++◌, ◌⊎◌, drop, slice_get, Option, Some, None}}
 use Rattle.std.specs.Prelude.{Result, MatchResult}
 use Rattle.p3_fs_core.specs.declared.error.TranscriptError.{TranscriptError}
@@ -8,28 +8,28 @@ use Rattle.p3_runs.specs.{Sides.Sides, Stepping.{SendsStep, Halts, one_of}}
 use Rattle.p3_script.specs.declared.standing.Standing.{Standing}
 use Rattle.p3_script.specs.declared.standing.Standing.TheVariants as standing
 
--- a witness, where the caller carries it
+-- the witness, where the caller carries it
 abbrev pub carried_at : {A : Type 0} → Standing → List A → List A
 carried_at standing.Carried xs = xs
 carried_at _ xs = []
 
--- what is lent, if anything is
+-- the borrowed value, if there is one
 abbrev pub lent : {A : Type 0} → Option (Bor A) → Option A
 lent None = None
 lent (Some x) = Some x.now
 
--- for a step whose value stands so this is handed: the value at the place, or nothing
+-- what is handed for a step whose value stands so: the value at the place, or nothing
 abbrev pub IsGivenAt : {A : Type 0} → Standing → List A → ℕ → Option (Bor A) → Type 0
 IsGivenAt standing.Sent sent at given = lent given ≡ slice_get sent at
 IsGivenAt _ sent at given = given ≡ None
 
--- the place of the next value, once this was handed
+-- the place of the next value, after this was handed
 abbrev pub next_place : {A : Type 0} → ℕ → Option (Bor A) → ℕ
 next_place at None = at
 next_place at (Some x) = at + 1
 
--- The step is played with what is handed for it, the first value that was not used yet or nothing: what comes of it is
--- kept, and the values after it are not used yet.
+-- The step is played with the first unused value, or with nothing. Its results are kept, and the later values are
+-- still unused.
 pub record PlaysNext {S Symbol F EF O : Type 0} (play : Play S Symbol F EF O) (sent : List (Value F EF)) (j k : ℕ)
     (here there : Driving S) (witnesses0 witnesses1 carried0 carried1 : List F)
     (drawn0 drawn1 : List (Challenge F EF)) : Type 0 where
@@ -42,7 +42,7 @@ pub record PlaysNext {S Symbol F EF O : Type 0} (play : Play S Symbol F EF O) (s
   pub carried_is : carried1 ≡ carried0 ++ where_carried play.place (one_of witness)
   pub drawn_is : drawn1 ≡ drawn0 ++ if_drawn (Some drawn)
 
--- It is refused with what is handed for it, or memory was refused for what comes of it.
+-- The step is refused with what is handed for it, or memory for its results was refused.
 pub record RefusesNext {S Symbol F EF O : Type 0} (play : Play S Symbol F EF O) (sides : Sides S F EF)
     (sent : List (Value F EF)) (j : ℕ) (here : Driving S) (e : TranscriptError) (there : Driving S) : Type 0 where
   pub given : Value F EF

@@ -1,4 +1,4 @@
-//! The steps that draw, as a prover plays them.
+//! The steps that draw, on the prover's side.
 ghost use Rattle.std.specs.Prelude.{◌≤◌, IsTrue};
 ghost use Rattle.p3_script_prover.specs.ProverAnswers.{PlaysUnhanded};
 

@@ -1,4 +1,4 @@
-//! Scripts, as a prover plays them.
+//! Proving scripts, with all values at hand.
 #![tactic(auto)]
 
 mod drawing;

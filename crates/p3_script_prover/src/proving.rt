@@ -1,4 +1,4 @@
-//! Whole scripts, as a prover plays them.
+//! Whole scripts, on the prover's side.
 ghost use Rattle.std.specs.{Option.OnSome, Prelude.{◌≡◌, ◌<◌, ◌++◌, drop, length, IfOk, IfErr, OnOk}};
 ghost use Rattle.p3_drivers.specs.Drivers.{proving_of};
 ghost use Rattle.p3_runs.specs.{Provings.{StartsHanded, AreHanded}, Runs.AreAdmitted, Stepping.one_of};
@@ -21,7 +21,7 @@ use p3_script::{
 use p3_symmetric::DigestHasher;
 use std::alloc::{AllocError, Global};
 
-/// What a prover has written, found and drawn. Not in the Rust crate.
+/// A proof, with the witnesses found, the challenges drawn and the final challenger. Not in the Rust crate.
 #[derive(Drop)]
 pub struct Proved<S: Suite> {
     /// The bytes of the proof.
@@ -30,10 +30,10 @@ pub struct Proved<S: Suite> {
     /// The witnesses of all proofs of work, in the order of their steps.
     pub witnesses: Vec<S::Field>,
 
-    /// Those of them that the proof does not carry: the verifier's caller has to be given them.
+    /// The witnesses that the proof does not carry. They have to reach the verifier's caller.
     pub carried: Vec<S::Field>,
 
-    /// What was drawn, in the order of the steps.
+    /// The challenges drawn, in the order of the steps.
     pub challenges: Vec<Drawn<S>>,
 
     /// The challenger after the last step.
@@ -147,22 +147,22 @@ fn play_next<S: Suite>(
     }
 }
 
-/// Plays a script from its first step to its last, as the prover: seeds the challenger with the separator, plays the
-/// steps in order, and answers the proof.
+/// Plays a script from its first step to its last, as the prover. Seeds the challenger with the separator, plays the
+/// steps in order, and returns the proof.
 ///
-/// `sent` has the values that the steps send, in their order: one for each step that sends one, and none for the others.
+/// `sent` has one value for each step that sends one, in the order of the steps, and none for the others.
 ///
-/// It answers `Ok` exactly where the script's steps are those of the separator's pattern, the values fit them, each proof
-/// of work has a witness that passes, and no draw meets its limit; only being out of memory may come in place of that. The
-/// witnesses are the least ones.
+/// The result is `Ok` exactly under four conditions. The script's steps are those of the separator's pattern, the
+/// values fit them, each proof of work has a witness that passes, and no draw meets its limit. Only out of memory may
+/// come in place of that. The witnesses are the least ones.
 ///
-/// The position of a [`Fault`] is that of the step that was refused, 0 also where the seed was, and the number of the
-/// steps where the end was: the pattern has more. The error is that of the driver's `new`, of [`prover_step`], or of the
-/// driver's `finish`; or [`TranscriptError::OutOfMemory`], where memory is refused for what a step answers. The challenger
-/// is gone then, and the proof so far.
+/// The position of a [`Fault`] is that of the refused step, or 0 for the seed. For the end, where the pattern has more
+/// steps, it is the number of steps. The error is that of the driver's `new`, of [`prover_step`] or of the driver's
+/// `finish`. It is [`TranscriptError::OutOfMemory`] too where memory for the results of a step is refused. After an
+/// error the challenger and the proof so far are dropped.
 ///
-/// Conditions: each step may be played by this suite, and each value of `sent` is of its step's type and, where the step
-/// says so, of its length. Not in the Rust crate.
+/// Conditions: each step may be played by this suite, and each value of `sent` is of its step's type and, where the
+/// step fixes a length, of that length. Not in the Rust crate.
 pub fn prove<S: Suite>(
     alloc: Global,
     challenger: S::Challenger,

@@ -1,4 +1,4 @@
-//! Each kind of step but those that draw, as a prover plays it.
+//! The steps that do not draw, on the prover's side.
 ghost use Rattle.std.specs.Prelude.{◌≡◌, ◌≤◌, ◌++◌, List, ℕ, IsTrue};
 ghost use Rattle.p3_fs_core.specs.Scalar.{encoding};
 ghost use Rattle.p3_runs.specs.{Plays.{Any, HasLength}, Values.{bytes_in, scalar_in, scalars_in, extension_in}};

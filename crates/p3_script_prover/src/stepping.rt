@@ -1,4 +1,4 @@
-//! One step of a script, as a prover plays it.
+//! One step of a script, on the prover's side.
 ghost use Rattle.p3_script.specs.{Scripts.play_of, StepFamilies.{SendsNothing, Draws}};
 ghost use Rattle.p3_script_prover.specs.ProverAnswers.{PlaysHanded, PlaysUnhanded, value_given};
 
@@ -10,21 +10,21 @@ use p3_fs_core::TranscriptError;
 use p3_script::{Drawn, Meaning, Sent, Step, StepGroup, Suite};
 use std::alloc::Global;
 
-/// What a prover answers for a step: the witness that was found, where the step is a proof of work, and what was drawn,
-/// where it draws. Not in the Rust crate.
+/// What a prover returns for a step: the witness of a proof of work, and the challenge of a draw. Not in the Rust
+/// crate.
 pub type Played<S> = (Option<<S as Suite>::Field>, Option<Drawn<S>>);
 
-/// Plays one step of a script: it calls the driver's method for it.
+/// Plays one step of a script by calling the driver's method for it.
 ///
-/// `sent` is the value that the step sends, or nothing where it sends none. Each witness of a proof of work is answered,
-/// whether the proof carries it or not.
+/// `sent` is the value that the step sends, or nothing where the step sends none. The witness of a proof of work is
+/// returned whether the proof carries it or not.
 ///
-/// The errors are those of the driver's method, and leave what that leaves; and
-/// [`TranscriptError::OutOfMemory`], where memory is refused for what was drawn, or for a clone of what the challenger
-/// itself knows how to observe. The driver is finished with each of them, and must be spent all the same.
+/// The errors are those of the driver's method, with the state that it leaves. [`TranscriptError::OutOfMemory`] comes
+/// too where memory is refused for the values drawn, or for a clone of an opaque value. After each of them the driver
+/// is finished, and must still be spent.
 ///
-/// Conditions: the step may be played by this suite, and `sent` is a value of its type and, where the step says so, of
-/// its length. Not in the Rust crate.
+/// Conditions: the step may be played by this suite, and `sent` is a value of its type and, where the step fixes a
+/// length, of that length. Not in the Rust crate.
 pub fn prover_step<S: Suite>(
     alloc: Global,
     prover: &mut ProverState<S::Challenger, S::Unit, S::Digest>,

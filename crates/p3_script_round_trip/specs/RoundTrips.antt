@@ -8,8 +8,8 @@ use Rattle.p3_script_verifier.specs.declared.verifying.Verified.{Verified}
 use Rattle.p3_script.specs.declared.steps.Drawn.{Drawn}
 use Rattle.p3_script.specs.declared.steps.Step as script
 
--- One run is both: the prover's, with these bytes, witnesses, challenges and challenger; and the verifier's, of which these
--- are what was received, the challenges and the challenger. So the challenges are the same, and the challengers.
+-- The prover and the verifier play one run. It has the prover's bytes, witnesses, challenges and challenger, and the
+-- verifier's received values, challenges and challenger. So both challenges and challengers agree.
 pub record PlaysOneRun {X S Symbol I F EF O Ac U D : Type 0} (rules : Rules S Symbol I F EF O Ac)
     (play : X → Play S Symbol F EF O) (script : Run X F EF S U D) (sent : List (Value F EF)) (narg : List ℕ)
     (witnesses carried : List F) (drawn : List (Challenge F EF)) (end : S) (received : List (Value F EF))
@@ -18,7 +18,7 @@ pub record PlaysOneRun {X S Symbol I F EF O Ac U D : Type 0} (rules : Rules S Sy
   pub proved : IsProverOutcome rules play (with_steps script script.steps values) sent narg witnesses carried drawn end
   pub verified : IsOutcome rules play (with_steps script script.steps values) received drawn_again end_again
 
--- the same of what the two answered
+-- the results of prover and verifier are of one run
 abbrev pub AreOfOneRun : {Su F EF U O C K Ac D G It St Sy S Symbol : Type 0} (rules : Rules S Symbol It F EF O Ac)
     (script : Run (script.Step Su F EF U O C K Ac D G It St Sy) F EF S U D) (sent : List (Value F EF)) → (C → S) →
     Proved Su F EF U O C K Ac D G It St Sy → Verified Su F EF U O C K Ac D G It St Sy → Type 0
@@ -26,8 +26,8 @@ AreOfOneRun rules script sent state proved verified = PlaysOneRun rules (play_of
     proved.witnesses.items proved.carried.items (challenges_of proved.challenges.items) (state proved.challenger)
     (values_received verified.received.items) (challenges_of verified.challenges.items) (state verified.challenger)
 
--- A verifier accepts what a prover answered: with some values for what it received, it drew these challenges and has this
--- challenger in the end.
+-- A verifier accepts what a prover returned. With some received values, it drew these challenges and ends with this
+-- challenger.
 pub record IsAcceptedProof {Su F EF U O C K Ac D G It St Sy S Symbol : Type 0} (rules : Rules S Symbol It F EF O Ac)
     (script : Run (script.Step Su F EF U O C K Ac D G It St Sy) F EF S U D) (state : C → S)
     (proved : Proved Su F EF U O C K Ac D G It St Sy) (drawn : List (Drawn Su F EF U O C K Ac D G It St Sy))

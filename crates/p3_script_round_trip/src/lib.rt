@@ -1,4 +1,4 @@
-//! What a prover proves of a script, a verifier accepts.
+//! A verifier accepts each proof that a prover makes of a script.
 #![tactic(auto)]
 
 mod round_trip;

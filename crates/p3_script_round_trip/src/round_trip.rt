@@ -1,4 +1,4 @@
-//! A script is proved, and the proof verified.
+//! Proving a script and verifying the proof.
 ghost use Rattle.std.specs.Prelude.{◌≡◌, ◌⊎◌, IfOk, IfErr};
 ghost use Rattle.p3_fs_core.specs.declared.error.TranscriptError.TheVariants.{OutOfMemory};
 ghost use Rattle.p3_runs.specs.{Provings.AreHanded, Runs.AreAdmitted, Verdicts.script_of};
@@ -14,13 +14,13 @@ use p3_script_prover::{Proved, prove};
 use p3_script_verifier::{Verified, verify};
 use std::alloc::Global;
 
-/// Verifies what [`prove`] answered for the script, from a challenger that equals the prover's.
+/// Verifies what [`prove`] returned for the script, from a challenger that equals the prover's.
 ///
-/// The proof is accepted: what is received are the values that were sent, with the witnesses in their places, the
-/// challenges are the prover's, and so is the challenger in the end. The one error is
+/// The proof is accepted. The received values are those that were sent, with the witnesses in their places. The
+/// challenges and the final challenger are the prover's. The one error is
 /// [`TranscriptError::OutOfMemory`](p3_fs_core::TranscriptError::OutOfMemory).
 ///
-/// Conditions: the steps are admitted, and `proved` is an answer of [`prove`] for them, from this state of a challenger.
+/// Conditions: the steps are admitted, and `proved` is a result of [`prove`] for them, from this state of a challenger.
 /// Not in the Rust crate.
 pub fn verify_proved<'a, S: Suite>(
     alloc: Global,
@@ -53,10 +53,10 @@ pub fn verify_proved<'a, S: Suite>(
     )
 }
 
-/// Proves a script, and verifies the proof, from two challengers of one state.
+/// Proves a script and verifies the proof, from two challengers of one state.
 ///
-/// It answers what [`prove`] answers for the values, and the challenges and the challenger of [`verify`], which has
-/// accepted the proof: they are the prover's.
+/// Returns what [`prove`] returns for the values, with the challenges and the challenger of [`verify`]. [`verify`] has
+/// accepted the proof, and its challenges and challenger are the prover's.
 ///
 /// The errors are those of [`prove`], and [`TranscriptError::OutOfMemory`](p3_fs_core::TranscriptError::OutOfMemory).
 /// Conditions: those of [`prove`], and that the challengers are equal. Not in the Rust crate.

@@ -1,4 +1,4 @@
-//! What a step answers.
+//! The results of a verifier's step.
 use p3_script::{Drawn, Received};
 
 /// What a verifier receives at a step, and what it draws.

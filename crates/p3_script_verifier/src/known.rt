@@ -1,4 +1,4 @@
-//! The steps whose value both sides know, and those that draw.
+//! The steps whose value both sides know, and the steps that draw.
 ghost use Rattle.std.specs.Prelude.{◌≤◌, None, IsTrue};
 ghost use Rattle.p3_script_verifier.specs.VerifierAnswers.{AnswersStep};
 

@@ -1,4 +1,4 @@
-//! Scripts on the verifier's side: one step, and whole ones.
+//! Verifying scripts: one step, and whole proofs.
 #![tactic(auto)]
 
 mod answer;

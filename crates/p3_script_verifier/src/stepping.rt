@@ -1,4 +1,4 @@
-//! One step of a script.
+//! One step of a script, on the verifier's side.
 ghost use Rattle.std.specs.Prelude.{None};
 ghost use Rattle.p3_runs.specs.Stepping.{IsCarriedTo};
 ghost use Rattle.p3_script.specs.{Scripts.play_of, StepFamilies.{SendsNothing, Draws}};
@@ -12,11 +12,10 @@ use p3_fs_core::TranscriptError;
 use p3_script::{Meaning, Step, Suite};
 use std::alloc::Global;
 
-/// Plays one step of a script on a verifier: what is received, and what is drawn.
+/// Plays one step of a script on a verifier, and returns what is received and what is drawn.
 ///
-/// The verifier plays the step as its method for it does, and the errors are those of that method. Where memory is
-/// refused for what is answered, the error is [`TranscriptError::OutOfMemory`], and the verifier is finished, as it is
-/// after every refused step.
+/// The verifier calls the method for the step, and the errors are those of that method. Where memory for the results
+/// is refused, the error is [`TranscriptError::OutOfMemory`]. After every refused step the verifier is finished.
 ///
 /// Conditions: the step is admitted, and there is a witness exactly where the step is `ObservePow`. Not in the Rust
 /// crate.

@@ -16,12 +16,12 @@ use p3_fs_core::TranscriptError;
 use p3_script::{Drawn, Fault, Meaning, Received, Step, Suite, script_steps_are_lawful};
 use std::alloc::Global;
 
-/// What a verifier that accepted a proof has received and drawn, in order, and the challenger. Not in the Rust crate.
+/// What a verifier received and drew in an accepted proof, in order, and its challenger. Not in the Rust crate.
 #[derive(Drop)]
 pub struct Verified<'a, S: Suite> {
-    /// One for each step whose value the proof carries. Bytes are lent of the proof.
+    /// One value for each step whose value the proof carries. Bytes are borrowed from the proof.
     pub received: Vec<Received<'a, S>>,
-    /// One for each step that draws.
+    /// One challenge for each step that draws.
     pub challenges: Vec<Drawn<S>>,
     /// The challenger after the last step.
     pub challenger: S::Challenger,
@@ -99,16 +99,17 @@ fn take_step<'a, S: Suite>(
     Ok(())
 }
 
-/// Verifies a proof: plays the steps of a script on a verifier of the separator, over the bytes `narg`, with the
-/// witnesses that the caller carries to its `ObservePow` steps.
+/// Verifies a proof of a script: plays the steps on a verifier of the separator over the bytes `narg`. The caller
+/// supplies the witnesses of the `ObservePow` steps.
 ///
-/// It answers `Ok` exactly where the script's steps are those of the separator's pattern and there is a list of values
-/// whose encoding the bytes are, whole, such that each value fits its step, each witness passes, and no draw meets its
-/// limit. There is at most one such list, and it is what is received.
+/// The result is `Ok` exactly where two conditions hold. The script's steps are those of the separator's pattern. The
+/// bytes are the whole encoding of a list of values. Each value fits its step, each witness passes, and no draw meets
+/// its limit. There is at most one such list, and it is what is received.
 ///
-/// Else the [`Fault`] says where the proof is refused, and why: at the first step that is, at position 0 where the seed
-/// is too long for the alphabet, or at the script's length, where steps of the pattern or bytes are left. Only
-/// [`TranscriptError::OutOfMemory`] can come in place of an acceptance. The challenger is gone then.
+/// Else the error is a [`Fault`] with the place and the reason of the refusal. The place is the first refused step. It
+/// is position 0 where the seed is too long for the alphabet, and the script's length where pattern steps or bytes are
+/// left. Only [`TranscriptError::OutOfMemory`] can come in place of an acceptance. After an error the challenger is
+/// dropped.
 ///
 /// Conditions: the steps are admitted, and there are as many witnesses as `ObservePow` steps. Not in the Rust crate.
 pub fn verify<'a, S: Suite>(

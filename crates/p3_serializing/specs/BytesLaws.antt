@@ -4,7 +4,7 @@ use Rattle.std.specs.Int.{w32, w64, byte_at, bytes_low_first, to_le_bytes, from_
 use Rattle.p3_serializing.specs.Bytes.{bytes_of, number_of}
 use Rattle.std.proofs.{Common.{◌∙◌, arith, pow-suc}, Math.Nat.{div-one, div-div-eq-div-mul}}
 
--- one byte further up
+-- the next byte up
 next_byte : (i x : ℕ) → x / 256 ^ i / 256 ≡ x / 256 ^ suc i
 next_byte i x = div-div-eq-div-mul x (256 ^ i) 256 ∙ ap (λ p. x / p) (sym (pow-suc 256 i))
 
@@ -34,7 +34,7 @@ unfolding bytes_of
 length-bytes_of zero x = refl
 length-bytes_of (suc n) x = ap suc (length-bytes_of n (x / 256))
 
--- numbers of as many bytes that have the same bytes are one
+-- numbers with the same bytes, equally many, are equal
 pub bytes_of-injective : (n x y : ℕ) → x < 256 ^ n → y < 256 ^ n → bytes_of n x ≡ bytes_of n y → x ≡ y
 unfolding bytes_of
 bytes_of-injective zero x y x_fits y_fits same = omega (arith, x_fits, y_fits)
@@ -47,7 +47,7 @@ bytes_of-injective (suc n) x y x_fits y_fits same =
     let high = bytes_of-injective n (x / 256) (y / 256) x_less y_less others in
     omega (arith, low, high)
 
--- the number of the bytes of a machine word
+-- the number of a machine word's bytes
 pub number_of_4 : (bytes : List ℕ) → length bytes ≡ 4 → from_le_bytes w32 bytes ≡ number_of bytes
 unfolding number_of
 number_of_4 (a ∷ b ∷ c ∷ d ∷ []) whole = omega arith
@@ -66,6 +66,6 @@ fits_4 order fits = omega (arith, fits)
 pub fits_8 : (order : ℕ) → order < 2 ^ 64 → order ≤ 256 ^ 8
 fits_8 order fits = omega (arith, fits)
 
--- so many bytes fit in memory
+-- at most eight bytes fit in memory
 pub bytes_fit : (n : ℕ) → n ≤ 8 → n < 2 ^ 63
 bytes_fit n short = omega (arith, short)

@@ -8,20 +8,20 @@ use Rattle.p3_serializing.specs.SerializingState.{SerializingState, element_obse
 
 module _ {I Symbol F : Type 0} (o : Observation I Symbol ℕ) (slice_may_leave : I → List ℕ → I → Type 0)
     (d : Sampling I ℕ) (r : Residues F) (n : ℕ) where
-  -- A check of so many bits, of at least one: a byte is drawn and dropped, the witness is observed, and then the low
-  -- bits of the next group are all 0. With 0 bits each witness passes, and nothing is touched.
+  -- A check of at least one bit draws and drops a byte and observes the witness. The witness passes if the low bits
+  -- of the next group are all 0. With 0 bits each witness passes, and nothing changes.
   abbrev pub serializing_check : ℕ → F → Sampling (SerializingState I) Bool
   serializing_check bits =
       check_of (byte_dropped d) (element_observed o slice_may_leave r n) (all_zero (bits_drawn d n bits)) bits
 
-  -- where a search may be refused for memory: where a copy may be, or a check
+  -- a search may run out of memory where a copy or a check may
   abbrev pub may_run_out_of : Type 0 → SerializingState I → Type 0
   may_run_out_of copies_may_fail s = (bits : ℕ) × MayRunOut copies_may_fail (serializing_check bits) s
 
--- the bytes of the witness of a number
+-- the bytes of the witness with this number
 abbrev pub witness_bytes : {F : Type 0} → Residues F → ℕ → ℕ → List ℕ
 witness_bytes r n k = bytes_of n (r.number (r.of k))
 
--- so many low bits of a group are 0
+-- the given number of low bits of a group are 0
 abbrev pub low_bits_zero : ℕ → List ℕ → Bool
 low_bits_zero bits bytes = number_of bytes % 2 ^ bits == 0

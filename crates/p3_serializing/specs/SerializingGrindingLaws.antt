@@ -10,7 +10,7 @@ use Rattle.p3_serializing.specs.SerializingState.{SerializingState}
 
 module _ {I Symbol F : Type 0} (o : Observation I Symbol ℕ) (slice_may_leave : I → List ℕ → I → Type 0)
     (d : Sampling I ℕ) (r : Residues F) (n : ℕ) (copies_may_fail : Type 0) (bits : ℕ) where
-  -- a search by a check of so many bits is a search
+  -- a refused search by checks of a fixed number of bits is a refused search
   pub refused-search : (e : ChallengerError) (s t : SerializingState I)
       → RefusesSearch r (MayRunOut copies_may_fail (serializing_check o slice_may_leave d r n bits))
       (serializing_check o slice_may_leave d r n bits) e s t

@@ -1,4 +1,4 @@
--- Laws of a serializing challenger: what it does is what its inner challenger does.
+-- Laws of a serializing challenger: its effects are those of its inner challenger.
 use Rattle.std.proofs.Common.{◌≡◌, ℕ, zero, suc, ◌<◌, ◌%◌, ◌^◌, List, [], ◌++◌, take, nat_lt, refl, sym, ap, ◌∙◌}
 use Rattle.std.{proofs.Common.{Option, Some, None}, specs.{Prelude.{Result, Ok, Err}, Option.option_map}}
 use Rattle.p3_field_core.specs.Residues.{Residues}
@@ -18,7 +18,7 @@ use Rattle.p3_grinding.specs.{Candidates.accepted_of, CandidateLaws.accepted_of-
 use Rattle.p3_challenger_core.specs.Observation as observation
 use Rattle.p3_challenger_core.specs.Sampling as sampling
 
--- ---- what is observed is what is fed
+-- ---- observations feed their symbols
 
 module _ {I Symbol : Type 0} (inner_fed : I → List Symbol → I) where
   passed_on-fed : (s : SerializingState I) (symbols : List Symbol) (t : SerializingState I)
@@ -62,7 +62,7 @@ module _ {I Symbol : Type 0} (inner_fed : I → List Symbol → I) where
         → IsObservation (fed inner_fed) o → IsObservation (fed inner_fed) (observed_as f o)
     as-observed f o laws = observed_as-is_observation (fed inner_fed) nothing-fed more-fed o laws f
 
-    -- of what is a list in another way
+    -- an observation of values that are lists in another way
     pub rows-observed_as : {T U : Type 0} (f : U → List T) (o : Observation (SerializingState I) Symbol T)
         → IsObservation (fed inner_fed) o → IsObservation (fed inner_fed) (observed_as f (observation.in_row o))
     rows-observed_as f o laws = as-observed f (observation.in_row o) (row-observed o laws)
@@ -91,14 +91,14 @@ module _ {I Symbol : Type 0} (inner_fed : I → List Symbol → I) where
 
 -- ---- draws
 
--- a draw is refused as what is made of its value
+-- a draw of a function of a value is refused as the draw of the value is
 pub refused-made_of : {S T U : Type 0} (f : T → U) (d : Sampling S T) (e : ChallengerError) (s t : S)
     → RefusesDraw d e s t → RefusesDraw (made_of f d) e s t
 refused-made_of f d OutOfMemory s t h = h
 refused-made_of f d DrawLimit s t h = h
 refused-made_of f d _ s t h = h
 
--- so is a draw from the inner challenger
+-- a draw under the limit is refused as the inner challenger's draw is
 pub refused-under_limit : {I T : Type 0} (d : ℕ → Sampling I T) (e : ChallengerError) (s t : SerializingState I)
     → t.draw_limit ≡ s.draw_limit → RefusesDraw (d s.draw_limit) e s.inner t.inner → RefusesDraw (under_limit d) e s t
 refused-under_limit d OutOfMemory s t same h = (h, same)
@@ -111,7 +111,7 @@ pub drawn-under_limit : {I T : Type 0} (d : ℕ → Sampling I T) (result : Resu
 drawn-under_limit d (Ok x) s t same h = (h.0, λ i. record { inner = h.1 i; draw_limit = same i })
 drawn-under_limit d (Err e) s t same h = refused-under_limit d e s t same h
 
--- the low bits of a number that may be drawn
+-- the low bits of a possibly missing number
 low_bits-below_all : (word : Option ℕ) (bits x : ℕ) → option_map (λ n. n % 2 ^ bits) word ≡ Some x → x < 2 ^ bits
 low_bits-below_all None bits x drawn = cc
 low_bits-below_all (Some n) bits x drawn = low_bits-below n bits x drawn
@@ -175,7 +175,7 @@ module _ {I : Type 0} (next : I → I) where
           made_of-is_sampling (stepped next) element (sampling.in_row (element_drawn d n r) dimension)
           (in_row-is_sampling (stepped next) (element_drawn d n r) element-drawn dimension)
 
-      -- where a coefficient is refused, the element is
+      -- a refused coefficient refuses the element
       pub refused-space_element : {A : Type 0} (dimension : ℕ) (element : List F → A) (e : ChallengerError)
           (s t : SerializingState I) → RefusesDraws (element_drawn d n r) dimension e s t
           → RefusesDraw (space_element_drawn d n r dimension element) e s t

@@ -1,4 +1,4 @@
--- What a serializing challenger feeds is a prefix code, where the bytes of its inner challenger are.
+-- A serializing challenger feeds a prefix code, if its inner challenger does for bytes.
 use Rattle.std.{proofs.Common.{◌≡◌, ℕ, zero, suc, ◌<◌, ◌≤◌, ◌/◌, ◌^◌, List, [], ◌∷◌, ◌++◌, length}, specs.List.flat_map}
 use Rattle.std.proofs.{Common.{refl, sym, ap, ◌∙◌, append_assoc, lit<, arith}, lemmas.Nat.mod_below}
 use Rattle.p3_field_core.specs.Residues.{Residues, IsResidues}
@@ -18,7 +18,7 @@ bytes_of-some zero x h = absurd (omega arith)
 bytes_of-some (suc n) x h = tt
 
 module _ {Symbol : Type 0} (symbols : ℕ → List Symbol) (prefix_code : IsPrefixCodeOn IsByte symbols) where
-  -- numbers of n bytes
+  -- numbers of n bytes are determined by their symbols
   number-read : (n x y : ℕ) (a b : List Symbol) → x < 256 ^ n → y < 256 ^ n
       → flat_map symbols (bytes_of n x) ++ a ≡ flat_map symbols (bytes_of n y) ++ b → (x ≡ y) × (a ≡ b)
   number-read n x y a b x_fits y_fits e =
@@ -54,7 +54,7 @@ module _ {Symbol : Type 0} (symbols : ℕ → List Symbol) (prefix_code : IsPref
               (bytes_of-are_bytes n (r.number x)) (bytes_of-some n (r.number x) (some_byte n fits));
         }
 
-    -- and as many of them
+    -- lists of N elements are a prefix code
     pub element_rows-prefix_code : (N : ℕ) → IsPrefixCodeOn (λ (xs : List F). length xs ≡ N)
         (flat_map (λ x. flat_map symbols (bytes_of n (r.number x))))
     element_rows-prefix_code N xs ys a b x_is y_is e =
@@ -63,7 +63,7 @@ module _ {Symbol : Type 0} (symbols : ℕ → List Symbol) (prefix_code : IsPref
   word-fits : (w : ℕ) → IsWord w → w < 256 ^ 8
   word-fits w h = omega (arith, h)
 
-  -- as many words of 64 bits
+  -- equally many words of 64 bits are determined by their symbols
   pub words-read : (xs ys : List ℕ) (a b : List Symbol) → AreWords xs → AreWords ys → length xs ≡ length ys
       → flat_map (λ w. flat_map symbols (bytes_of 8 w)) xs ++ a
       ≡ flat_map (λ w. flat_map symbols (bytes_of 8 w)) ys ++ b

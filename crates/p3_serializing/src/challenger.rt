@@ -1,11 +1,11 @@
-//! A challenger of elements over a challenger of bytes, and what it does with elements and arrays.
+//! A challenger of elements over a challenger of bytes, with its observations of elements and arrays.
 //!
 //! ```text
 //! observe ->  the element's number as BYTES bytes, the lowest first  ->  observed by the inner challenger
 //! sample  <-  the first group of BYTES drawn bytes, cut to the bits of the order, that is below the order
 //! ```
 //!
-//! It keeps nothing of its own: its state is the inner challenger's.
+//! The challenger has no state of its own: its state is the inner challenger's.
 ghost use Rattle.std.specs.Prelude.{◌≡◌, ◌≤◌};
 ghost use Rattle.p3_challenger_core.specs.Observation.{in_row, each_as, ObservesOrRefuses};
 ghost use Rattle.p3_hash_challenger.specs.HashCalls.{with_pending};
@@ -28,23 +28,23 @@ use std::marker::{Model, PhantomData};
 
 /// A challenger of the elements of a field over a challenger of bytes.
 ///
-/// An element is observed as the `BYTES` bytes of its canonical number, the lowest first, which reach the inner
-/// challenger as one slice. It is drawn from groups of as many bytes: a group is a number, the lowest byte first, cut
-/// to as many bits as the order of the field takes, and the first one below the order is the element. As many groups
-/// as the draw limit allows are tried.
+/// An element is observed as the `BYTES` bytes of its canonical number, lowest first, which reach the inner challenger
+/// as one slice. An element is drawn from groups of `BYTES` bytes. A group is a number, lowest byte first, cut to the
+/// bits of the order of the field. The first group below the order is the element. A draw tries as many groups as the
+/// draw limit allows.
 ///
-/// A digest of bytes reaches the inner challenger as one slice, and one of words of 64 bits as 8 bytes for each word,
-/// the lowest first.
+/// A digest of bytes reaches the inner challenger as one slice. A digest of words of 64 bits reaches it as 8 bytes for
+/// each word, lowest first.
 ///
-/// A number of some bits, uniform or not, is the low bits of one group, also for no bits. Symbols, and the digest at
-/// the end, are those of the inner challenger.
+/// A number of bits, uniform or not, is the low bits of one group, even for 0 bits. The symbols and the final digest
+/// are those of the inner challenger.
 ///
-/// Being out of memory is the inner challenger's. It leaves what it leaves of the bytes of the one slice that was refused,
-/// with all that came before it: of a list of elements, the elements before the refused one; of a digest of words, the
-/// words before it. In a draw it leaves the bytes drawn before the refused one.
+/// The inner challenger may run out of memory. Then everything before the refused slice stays, plus what the inner
+/// challenger leaves of the slice. Of a list of elements, the elements before the refused one stay. Of a digest of
+/// words, the words before it stay, and of a draw, the bytes drawn before it.
 ///
-/// The Rust crate's `SerializingChallenger32` and `SerializingChallenger64`, over the bytes of a word. There a draw
-/// has no limit.
+/// Corresponds to the Rust crate's `SerializingChallenger32` and `SerializingChallenger64`, over the bytes of a word.
+/// Their draws have no limit.
 #[derive_where(Debug; Inner)]
 pub struct SerializingChallenger<F, Inner, const BYTES: usize> {
     inner: Inner,
@@ -53,14 +53,14 @@ pub struct SerializingChallenger<F, Inner, const BYTES: usize> {
     field: PhantomData<F>,
 }
 
-/// A challenger of the elements of a field of 32 bits, each 4 bytes of the inner challenger.
+/// A challenger of the elements of a field of 32 bits, each as 4 bytes of the inner challenger.
 ///
-/// The Rust crate's `SerializingChallenger32`.
+/// Corresponds to the Rust crate's `SerializingChallenger32`.
 pub type SerializingChallenger32<F, Inner> = SerializingChallenger<F, Inner, 4>;
 
-/// A challenger of the elements of a field of 64 bits, each 8 bytes of the inner challenger.
+/// A challenger of the elements of a field of 64 bits, each as 8 bytes of the inner challenger.
 ///
-/// The Rust crate's `SerializingChallenger64`.
+/// Corresponds to the Rust crate's `SerializingChallenger64`.
 pub type SerializingChallenger64<F, Inner> = SerializingChallenger<F, Inner, 8>;
 
 impl<F, Inner, const BYTES: usize> Model for SerializingChallenger<F, Inner, BYTES> {
@@ -85,9 +85,9 @@ impl<F, Inner: Drop, const BYTES: usize> Drop for SerializingChallenger<F, Inner
 }
 
 impl<F, Inner, const BYTES: usize> SerializingChallenger<F, Inner, BYTES> {
-    /// A challenger over this one of bytes.
+    /// Returns a challenger over this challenger of bytes.
     ///
-    /// `draw_limit`, at least 1, is how many groups of bytes a draw of an element takes at most. The Rust crate has
+    /// `draw_limit`, at least 1, is the greatest number of groups of bytes in a draw of an element. The Rust crate has
     /// no limit.
     pub fn new(inner: Inner, draw_limit: u64) -> Self
         requires { 1 ≤ draw_limit }
@@ -100,7 +100,7 @@ impl<F, Inner, const BYTES: usize> SerializingChallenger<F, Inner, BYTES> {
         }
     }
 
-    /// The challenger of bytes. Not in the Rust crate.
+    /// Returns the challenger of bytes. Not in the Rust crate.
     pub fn inner(&self) -> &Inner
         ensures { result.now ≡ self.now.inner }
     {
@@ -113,9 +113,9 @@ impl<F, H: CryptographicHasher<u8, [u8; 32]>, const BYTES: usize> SerializingCha
     HashChallenger<u8, H, 32>,
     BYTES,
 > {
-    /// A challenger over a [`HashChallenger`] that has the initial state pending.
+    /// Returns a challenger over a [`HashChallenger`] with the initial state pending.
     ///
-    /// `draw_limit`, at least 1, is how many groups of bytes a draw of an element takes at most. The Rust crate has
+    /// `draw_limit`, at least 1, is the greatest number of groups of bytes in a draw of an element. The Rust crate has
     /// no limit.
     pub fn from_hasher(initial_state: Vec<u8>, hasher: H, draw_limit: u64) -> Self
         requires { 1 ≤ draw_limit }

@@ -12,15 +12,15 @@ impl<
     Inner: CanObserve<u8> + CanSample<u8>,
     const BYTES: usize,
 > SerializingChallenger<F, Inner, BYTES> {
-    /// Every list of observes of elements, draws, draws of bits and of uniform bits, and of the bytes that checks of
-    /// witnesses drop, is a list of calls on the inner challenger: the bytes of each observed element as one slice, for
-    /// each draw the groups that it takes, and a byte for each that is dropped. The answers are read off these groups,
-    /// and the inner challenger ends where these calls leave it. The draw limit stays. This holds where the inner
-    /// challenger's draws meet no limit of their own.
+    /// A list of calls is a list of calls on the inner challenger. The calls observe elements, draw elements and
+    /// numbers of bits, plain or uniform, and drop bytes for checks of witnesses. The inner challenger observes the
+    /// bytes of each element as one slice, and draws the groups of each draw and each dropped byte. The groups
+    /// determine the results, and the inner challenger ends where these calls leave it. The draw limit stays. This
+    /// holds where the inner challenger's draws meet no limit of their own.
     ///
     /// A check of a witness is such a list too, as [`checks_are_calls`](SerializingChallenger::checks_are_calls) says:
-    /// a byte that is dropped, an observe and a draw of bits. Digests and arrays are not among these calls: their
-    /// observes are those of their bytes, by [`observes_are_calls`](SerializingChallenger::observes_are_calls).
+    /// a dropped byte, an observation and a draw of bits. Digests and arrays are not among these calls. Their
+    /// observations are those of their bytes, by [`observes_are_calls`](SerializingChallenger::observes_are_calls).
     ///
     /// A law: the body is empty, and a caller cites the clause.
     pub fn follows_groups()

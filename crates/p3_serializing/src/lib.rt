@@ -1,7 +1,7 @@
-//! Challengers of the elements of a field over a challenger of bytes: an element goes in as its bytes, and is drawn
-//! from groups of bytes.
+//! Challengers of field elements over a challenger of bytes: an element is observed as its bytes, and drawn from
+//! groups of bytes.
 //!
-//! What is called a law is a function without effect whose contract a caller cites. The Rust crate has none.
+//! A law is a function without effect whose contract a caller cites. The Rust crate has none.
 #![tactic(auto)]
 
 mod challenger;

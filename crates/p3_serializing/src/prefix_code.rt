@@ -1,5 +1,5 @@
-//! What a serializing challenger feeds is a prefix code, where the bytes of its inner challenger are: the premises of
-//! the laws on symbols.
+//! A serializing challenger feeds a prefix code, if its inner challenger does for bytes: the premises of the laws on
+//! symbols.
 ghost use Rattle.std.specs.Prelude.{◌≡◌, length};
 ghost use Rattle.p3_challenger_core.specs.Reading.{IsPrefixCode, IsPrefixCodeOn, IsByte, AreBytes, IsPrefixFree};
 ghost use Rattle.p3_symmetric.specs.Digests.{values_of};
@@ -9,8 +9,8 @@ use crate::{SerializedIn, SerializingChallenger};
 use p3_challenger_core::CanObserve;
 use p3_symmetric::Hash;
 
-/// The symbols of the elements that a serializing challenger observes are a prefix code, and none are empty, where the
-/// bytes of its inner challenger are a prefix code. So are those of arrays of `N` elements.
+/// The symbols of the elements that a serializing challenger observes are a prefix code, and none are empty. So are
+/// those of arrays of `N` elements. The premise is that the bytes of its inner challenger are a prefix code.
 ///
 /// A law: the body is empty, and a caller cites the clauses.
 pub fn serialized_elements_are_prefix_code<
@@ -26,8 +26,8 @@ pub fn serialized_elements_are_prefix_code<
         ⟦<SerializingChallenger<F, Inner, BYTES> as CanObserve<[F; N]>>⟧.observation.symbols }
 {}
 
-/// The symbols of the digests of `N` bytes that a serializing challenger observes are a prefix code, and so are those
-/// of digests of `N` words of 64 bits, where the bytes of its inner challenger are a prefix code.
+/// The symbols of the digests of `N` bytes that a serializing challenger observes are a prefix code. So are those of
+/// digests of `N` words of 64 bits. The premise is that the bytes of its inner challenger are a prefix code.
 ///
 /// A law: the body is empty, and a caller cites the clauses.
 pub fn serialized_digests_are_prefix_code<

@@ -1,4 +1,4 @@
-//! The prime fields whose elements are numbers of so many bytes.
+//! The prime fields whose elements are numbers of a fixed number of bytes.
 ghost use Rattle.std.{specs.Prelude.{◌≡◌, ◌≤◌, ◌^◌}, proofs.Common.lit≤};
 ghost use Rattle.p3_serializing.specs.{Bytes.{bytes_of, number_of}, BytesLaws.{fits_4, fits_8}};
 
@@ -6,15 +6,15 @@ use p3_field_core::{PrimeField32, PrimeField64};
 
 /// A prime field whose elements are numbers of `BYTES` bytes.
 ///
-/// Every [`PrimeField32`] is one of 4 bytes, and every [`PrimeField64`] one of 8.
+/// Every [`PrimeField32`] is such a field of 4 bytes, and every [`PrimeField64`] one of 8.
 ///
-/// Not in the Rust crate, where each of two structs asks for a field of its width.
+/// Not in the Rust crate, where each of two structs requires a field of its width.
 pub trait SerializedIn<const BYTES: usize>: PrimeField64 {
-    /// The bytes of the element's unique number, the lowest first.
+    /// Returns the bytes of the element's unique number, lowest first.
     fn to_unique_bytes(&self) -> [u8; BYTES]
         ensures { result ≡ bytes_of BYTES (Self.residues.number self.now) };
 
-    /// The number that so many bytes are, the lowest first.
+    /// Returns the number that the bytes encode, lowest first.
     fn number_of_bytes(bytes: &[u8; BYTES]) -> u64
         ensures { result ≡ number_of bytes.now };
 

@@ -1,10 +1,10 @@
 //! A serializing challenger as contracts see it.
 use std::marker::Model;
 
-/// What contracts see of a [`SerializingChallenger`](crate::SerializingChallenger): the state `S` of the challenger of
-/// bytes, and the draw limit.
+/// The view of contracts on a [`SerializingChallenger`](crate::SerializingChallenger): the state `S` of the challenger
+/// of bytes, and the draw limit.
 ///
-/// No value of this type is made. The state is behind a box so that its size is known whatever `S` is.
+/// No program makes a value of this type. A box around the state makes its size known whatever `S` is.
 ///
 /// Not in the Rust crate.
 pub struct SerializingState<S> {

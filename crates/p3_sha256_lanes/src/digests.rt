@@ -54,10 +54,10 @@ fn digest_in_lane(hash_values: &[Words; 8], lane: usize) -> [u8; 32]
     digest
 }
 
-/// The SHA-256 digests of four messages of one length, which stand one after another: each is a fourth of the
-/// bytes. Digest `lane` is that of message `lane`, the same as the kit's `sha2` gives. It takes no memory.
+/// Returns the SHA-256 digests of four messages of one length, each a fourth of the bytes. Digest `lane` is
+/// that of message `lane`, as the kit's `sha2` computes it. This call takes no memory.
 ///
-/// The number of bytes is a multiple of 4; with no bytes at all, each digest is that of the empty message.
+/// The number of bytes is a multiple of 4; without bytes, each digest is that of the empty message.
 pub fn four_digests(messages: &[u8]) -> [[u8; 32]; 4]
     requires whole { length messages.now % 4 ≡ 0 }
     ensures { (lane : ℕ) → lane < 4 →

@@ -1,8 +1,8 @@
 //! SHA-256 of four messages of one length at once, each in a lane of its own.
 //!
-//! The kit's `sha2` hashes one message after another. Here word `i` of each of four messages stands in one
-//! vector, and each operation of the standard (FIPS 180-4) is made on all four at once. That each digest is
-//! the one of `sha2` is proved.
+//! The kit's `sha2` hashes one message after another. Here word `i` of each of four messages is in one
+//! vector. Each operation of the standard (FIPS 180-4) works on all four at once. Each digest is proved
+//! equal to that of `sha2`.
 #![tactic(auto)]
 
 mod compression;

@@ -3,7 +3,7 @@ use Rattle.std.proofs.Common.{lit<}
 use Rattle.p3_field_core.specs.Residues.{Residues}
 use Rattle.p3_small_primes.specs.{SmallPrimes.residues_below, declared.small_prime.SmallPrime.SmallPrime}
 
--- its elements
+-- the elements of the field
 abbrev pub KoalaBear : Type 0
 KoalaBear = SmallPrime 2130706433
 

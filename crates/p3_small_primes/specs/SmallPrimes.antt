@@ -7,11 +7,11 @@ use Rattle.p3_small_primes.specs.declared.small_prime.SmallPrime.{SmallPrime}
 abbrev pub number : {order : ℕ} → SmallPrime order → ℕ
 number x = x.value
 
--- what is left of a number modulo the order is below the order
+-- the remainder of a number modulo the order is below the order
 pub remainder_below : (order : ℕ) → 1 < order → (n : ℕ) → n % order < order
 remainder_below order above_one n = mod-lt n (omega (arith, above_one))
 
--- the element that a number is modulo the order
+-- the element of a number modulo the order
 abbrev pub element : (order : ℕ) → 1 < order → ℕ → SmallPrime order
 element order above_one n = record { value = n % order; canonical = remainder_below order above_one n }
 

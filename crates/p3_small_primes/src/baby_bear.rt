@@ -6,7 +6,7 @@ use p3_field_core::BinomiallyExtendable;
 
 /// An element of the prime field of order 2013265921 = 15 * 2^27 + 1.
 ///
-/// The field of the crate `p3-baby-bear`.
+/// The field of the Rust crate `p3-baby-bear`.
 pub type BabyBear = SmallPrime<2013265921>;
 
 impl SmallOrder<2013265921> for BabyBear {

@@ -1,4 +1,4 @@
-//! The field of order 257, small enough for rows that are worked out by hand.
+//! The field of order 257, small enough to work rows out by hand.
 use crate::{SmallOrder, SmallPrime};
 
 /// An element of the prime field of order 257.

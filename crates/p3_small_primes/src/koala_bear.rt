@@ -6,7 +6,7 @@ use p3_field_core::BinomiallyExtendable;
 
 /// An element of the prime field of order 2130706433 = 127 * 2^24 + 1 = 2^31 - 2^24 + 1.
 ///
-/// The field of the crate `p3-koala-bear`.
+/// The field of the Rust crate `p3-koala-bear`.
 pub type KoalaBear = SmallPrime<2130706433>;
 
 impl SmallOrder<2130706433> for KoalaBear {

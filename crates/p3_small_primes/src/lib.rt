@@ -1,4 +1,5 @@
-//! Prime fields whose order is below 2^32: one type of elements for all of them, and three of them.
+//! Prime fields whose order is below 2^32: one type of elements for all of them, and three such
+//! fields.
 #![tactic(auto)]
 
 mod baby_bear;

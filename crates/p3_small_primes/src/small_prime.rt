@@ -1,4 +1,4 @@
-//! The prime fields whose order is below 2^32: one type of elements, each the number itself.
+//! The prime fields whose order is below 2^32: one type of elements, each stored as its number.
 ghost use Rattle.std.specs.{Prelude.{◌<◌, ℕ, List, ◌≡◌, ◌*◌, ◌^◌, ◌≤◌, Some, ◌-◌, refl}, Ordering.nat_cmp};
 ghost use Rattle.std.proofs.Common.{lit≤};
 ghost use Rattle.p3_field_core.specs.Residues.{sum_of, difference_of, product_of};
@@ -12,12 +12,12 @@ use std::fmt;
 use std::hash::Hash;
 use std::ops::{Add, Mul, Sub};
 
-/// An element of the prime field of order `ORDER`, kept as its canonical number.
+/// An element of the prime field of order `ORDER`, stored as its canonical number.
 ///
-/// The number is below the order, and the type says so: two equal elements have equal numbers.
+/// The number is below the order, by an invariant of the type, so equal elements have equal numbers.
 ///
-/// `ORDER` is that of a field which has an `impl` of [`SmallOrder`]; no order is proved prime. Not in the Rust crate,
-/// whose fields are a crate each.
+/// `ORDER` is that of a field with an `impl` of [`SmallOrder`]; no order is proved prime. Not in the Rust crate,
+/// where each field is a crate.
 #[derive(Clone, Copy, PartialEq, Eq, PartialOrd, Ord, Hash)]
 pub struct SmallPrime<const ORDER: u32> {
     value: u32,
@@ -27,8 +27,8 @@ pub struct SmallPrime<const ORDER: u32> {
 // The largest order of which 32 bits hold each sum of two numbers below it.
 const LARGEST_OF_SHORT_SUMS: u32 = 1 << 31;
 
-/// An order of a prime field: what [`SmallPrime`] of this order has to know of it, and the texts that name the
-/// field. A field is its order and an `impl` of this, and from it has all that the other fields have.
+/// The order of a prime field: the facts that [`SmallPrime`] of this order needs, and the texts that name the field.
+/// An order and an `impl` of this trait make a field with everything that the other fields have.
 ///
 /// Not in the Rust crate.
 pub trait SmallOrder<const ORDER: u32> {
@@ -46,11 +46,11 @@ pub trait SmallOrder<const ORDER: u32> {
 
     ghost bits_least: { 2 ^ bit_length ≤ 2 * ORDER };
 
-    /// The bit length of the order.
+    /// Returns the bit length of the order.
     fn order_bits() -> usize
         ensures { result ≡ bit_length };
 
-    /// The most uniform bits that are drawn from one element. Their power of two is within the order.
+    /// The greatest number of uniform bits drawn from one element. Its power of two is at most the order.
     const SINGLE_SAMPLE_BITS: usize;
 
     ghost SINGLE_SAMPLE_BITS: { ℕ };
@@ -63,14 +63,14 @@ pub trait SmallOrder<const ORDER: u32> {
     // The bytes of the name.
     ghost field_name_bytes: { List ℕ };
 
-    /// The same name, for code whose contract speaks of its bytes.
+    /// Returns the name of the field, for code whose contract speaks of its bytes.
     fn name_of_field() -> &'static str
         ensures { result.now ≡ field_name_bytes };
 
     // The bytes of the identity.
     ghost field_identity_bytes: { List ℕ };
 
-    /// The identity of the field: `prime:` and the order in decimal digits.
+    /// Returns the identity of the field: `prime:` and the order in decimal digits.
     fn field_identity() -> &'static [u8]
         ensures bytes { result.now ≡ field_identity_bytes }
         ensures of_order { result.now ≡ prime_identity ORDER };
@@ -115,7 +115,7 @@ where
 impl<const ORDER: u32> SmallPrime<ORDER> {
     ghost use Rattle.p3_small_primes.specs.SmallPrimes.{number};
 
-    /// Elements are ordered as their canonical numbers are, and hashed as those.
+    /// Elements are ordered and hashed as their canonical numbers are.
     ///
     /// A law: the body is empty, and a caller cites the clauses.
     pub fn ordered_and_hashed_by_numbers()

@@ -1,9 +1,9 @@
--- What challengers over a sponge promise of calls.
+-- Promises of calls that challengers over a sponge make.
 use Rattle.std.specs.{Prelude.{◌≡◌, ℕ, List}, List.All}
 use Rattle.p3_challenger_core.specs.{Observation.{Observation, LeavesInCalls, RefusesObserve}, Segments.Run}
 use Rattle.p3_challenger_core.specs.{Sampling.{Sampling, RefusesDraws}, declared.error.ChallengerError.ChallengerError}
 
--- a permutation or hash function that gives what this one gives for all that a run queries makes the same run
+-- a permutation or hash function with the same results on all queries of a run makes the same run
 abbrev pub QueriesDecide : {A M S : Type 0} → (M → M) → ((M → M) → Run A M S) → Type 0
 QueriesDecide {A} {M} {S} step run_under = (other : M → M) →
     All (λ query. other query ≡ step query) (run_under step).queries → run_under other ≡ run_under step

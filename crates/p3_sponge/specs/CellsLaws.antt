@@ -1,4 +1,4 @@
--- Lemmas on cells with the rate written over.
+-- Lemmas on cells whose rate is overwritten.
 use Rattle.std.proofs.Common.{◌≡◌, ℕ, suc, ◌<◌, ◌+◌, List, ◌∷◌, ◌++◌, length, take, drop, set, get_or, sym, ap}
 use Rattle.std.proofs.lemmas.List.{take_at, drop_at, set_at, get_or_at, length-take-le, take-append-drop, drop-drop}
 use Rattle.p3_field_core.specs.Residues.{Residues, plus}
@@ -6,7 +6,7 @@ use Rattle.p3_sponge.specs.Cells.{cell, counted_over}
 use Rattle.std.proofs.{Common.{◌∙◌, add-one, arith}, Math.Seq.drop-cons}
 
 module _ {F : Type 0} (r : Residues F) where
-  -- where the rate stays, one cell is set
+  -- if the rate stays the same, one cell is set
   pub counted_over-set : (cells : List F) (rate n : ℕ) → rate < length cells
       → set cells rate (plus r (cell r cells rate) n) ≡ counted_over r rate cells (take rate cells) n
   counted_over-set cells rate n below =
@@ -17,7 +17,7 @@ module _ {F : Type 0} (r : Residues F) where
       ∙ set_at (take rate cells) _ (drop (suc rate) cells) x rate front
       ∙ ap (λ k. take rate cells ++ (x ∷ drop k cells)) (sym (add-one rate))
 
-  -- a front as long as the rate, which is then counted
+  -- a prefix as long as the rate, followed by the counted cell
   pub counted_over-front : (cells front : List F) (rate n : ℕ) → length front ≡ rate → rate < length cells
       → counted_over r rate (front ++ drop rate cells) (take rate (front ++ drop rate cells)) n
       ≡ counted_over r rate cells front n

@@ -6,20 +6,20 @@ use Rattle.p3_challenger_core.specs.Sampling.{IsSampling, unrefused_draw}
 use Rattle.p3_sponge.specs.Outputs.{drawn}
 
 module _ {S T : Type 0} (sampled : S → T) (next : S → S) where
-  -- what is made of values drawn in order is drawn
+  -- a function of values drawn in order is drawn
   pub elements-sampled : {A : Type 0} (n : ℕ) (element : List T → A)
       → IsSampling next (unrefused_draw (λ s. Some (element (drawn sampled next n s))) (after_steps next n))
   elements-sampled n element =
       unrefused_draw-is_sampling next (λ s. Some (element (drawn sampled next n s))) (after_steps next n)
       (λ s. (n, refl))
 
-  -- and what is made of one
+  -- a function of one drawn value is drawn
   pub value-sampled : {A : Type 0} (of_value : T → A)
       → IsSampling next (unrefused_draw (λ s. Some (of_value (sampled s))) next)
   value-sampled of_value = unrefused_draw-is_sampling next (λ s. Some (of_value (sampled s))) next (one_step next)
 
   module _ (n : ℕ) (start : S) where
-    -- Of n values from the start, xs were drawn: what is left of them goes on from here.
+    -- Of n values from the start, these were drawn; the remaining draws continue from here.
     pub record HasDrawn (xs : List T) (left : ℕ) (here : S) : Type 0 where
       pub values : drawn sampled next n start ≡ xs ++ drawn sampled next left here
       pub reached : after_steps next n start ≡ after_steps next left here
@@ -41,7 +41,7 @@ module _ {S T : Type 0} (sampled : S → T) (next : S → S) where
           reached = following.reached;
         })
 
-    -- all of them
+    -- all n values are drawn
     pub has_drawn-values : (xs : List T) (i : ℕ) (here : S) → n ≤ i → length xs ≡ n
         → HasDrawn (take i xs) (n - i) here → drawn sampled next n start ≡ xs
     has_drawn-values xs i here all long so_far =

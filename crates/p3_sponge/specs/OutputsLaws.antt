@@ -1,4 +1,4 @@
--- Laws of outputs in a row: what one draw gives, and what is left then.
+-- Laws of the sequence of outputs: the result of a draw, and the outputs left after it.
 use Rattle.std.proofs.Common.{◌≡◌, ℕ, zero, suc, ◌<◌, ◌≤◌, ◌+◌, ◌-◌, ◌/◌, ◌%◌, [], ◌∷◌, map, refl, sym, ap, ◌∙◌}
 use Rattle.std.proofs.Math.Nat.{add-div_left, add-mod_left, div-eq_of_lt, mod-eq_of_lt}
 use Rattle.p3_challenger_core.specs.Segments.{Run}
@@ -6,11 +6,11 @@ use Rattle.p3_sponge.specs.Outputs.{Outputs, stepped, step_queries, output_at, o
 use Rattle.p3_sponge.specs.Outputs.{run_draws}
 use Rattle.std.{proofs.Common.{add-one, arith}, specs.List.range_with_len}
 
--- one row more of places
+-- the places of one more state
 pub further-div : (n q : ℕ) → 0 < n → (n + q) / n ≡ suc (q / n)
 further-div n q h = add-div_left q h ∙ add-one (q / n)
 
--- with outputs left, the place where draws begin is in the row of the state itself, at the last output left
+-- with outputs left, draws begin within the state itself, at the last output left
 here-div : (n left : ℕ) → 0 < left → left ≤ n → (n - left) / n ≡ 0
 here-div n left more h = let below : n - left < n = omega arith in div-eq_of_lt below
 
@@ -21,7 +21,7 @@ here-mod n left more h =
     omega (arith, same)
 
 module _ {C T : Type 0} (o : Outputs C T) where
-  -- the outputs from a place on are those at the places from there on
+  -- the outputs from a place on are those at the following places
   pub outputs-places : (state : C) (place n : ℕ)
       → outputs_from o state place n ≡ map (output_at o state) (range_with_len place n)
   unfolding outputs_from
@@ -31,7 +31,7 @@ module _ {C T : Type 0} (o : Outputs C T) where
       (ap (λ p. outputs_from o state p n) (sym (add-one place)) ∙ outputs-places state (place + 1) n)
 
   module _ (positive : 0 < o.row_len) where
-    -- outputs one row further on are those of the next state
+    -- outputs one state further on are those of the next state
     output_at-further : (state : C) (q : ℕ) → output_at o state (o.row_len + q) ≡ output_at o (o.next state) q
     unfolding stepped
     output_at-further state q =
@@ -74,7 +74,7 @@ module _ {C T : Type 0} (o : Outputs C T) where
       left_after-here state left more h =
           λ i. holding (stepped o (here-div o.row_len left more h i) state) (here-mod o.row_len left more h i)
 
-      -- draws one row further on are those of the next state, and the state itself is queried before them
+      -- draws one state further on are those of the next state, after a query of the state itself
       draws_from-further : (state : C) (q k : ℕ)
           → draws_from o holding state (o.row_len + q) k
           ≡ queried_first state (draws_from o holding (o.next state) q k)
@@ -90,7 +90,7 @@ module _ {C T : Type 0} (o : Outputs C T) where
             after = following i;
           }
 
-      -- a draw that finds an output, and then k draws
+      -- a draw that finds an output, followed by k draws
       pub draws-left : (state : C) (left k : ℕ) → 0 < left → left ≤ o.row_len
           → draws_from o holding state (o.row_len - left) k
           ≡ drawn_first (o.output state (left - 1)) (run_draws o holding state (left - 1) k)
@@ -115,7 +115,7 @@ module _ {C T : Type 0} (o : Outputs C T) where
             after = left_after o holding state (further i);
           }
 
-      -- a draw that finds none, and then k draws
+      -- a draw that finds no output, followed by k draws
       pub draws-next : (state : C) (k : ℕ)
           → draws_from o holding state (o.row_len - 0) k
           ≡ queried_first state (drawn_first (o.output (o.next state) (o.row_len - 1))

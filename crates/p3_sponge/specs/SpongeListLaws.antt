@@ -1,16 +1,16 @@
--- Values that a sponge observes many at a time.
+-- Observations of many values at a time.
 use Rattle.std.proofs.Common.{◌≡◌, ◌<◌, ◌+◌, List, [], ◌∷◌, ◌++◌, length, true, false, ◌==◌, if◌then◌else◌, refl, ap}
 use Rattle.std.proofs.{Common.{◌∙◌, append_assoc, arith}, lemmas.{List.length-append, Bool.Decides.nat_tests}}
 use Rattle.p3_challenger_core.specs.Observation.{observed_all}
 use Rattle.p3_sponge.specs.SpongeCalls.{SpongeRule, CellSponge, appended, duplexed, observed}
 
--- observing a list and then another is observing both
+-- observing two lists in turn observes their concatenation
 pub observed_all-append : {S T : Type 0} (step : S → T → S) (s : S) (xs ys : List T)
     → observed_all step (observed_all step s xs) ys ≡ observed_all step s (xs ++ ys)
 observed_all-append step s [] ys = refl
 observed_all-append step s (x ∷ xs) ys = observed_all-append step (step s x) xs ys
 
--- with more values pending
+-- the sponge with more pending values
 abbrev pub with_values : {C T : Type 0} → CellSponge C T → List T → CellSponge C T
 with_values s xs = record { cells = s.cells; pending = s.pending ++ xs; outputs_left = 0 }
 
@@ -26,7 +26,7 @@ module _ {C T : Type 0} (rule : SpongeRule C T) where
       let not_full : (length (s.pending ++ x ∷ []) == rule.block_len) ≡ false = grind (arith, nat_tests) in
       ap (λ b. if b then duplexed rule (appended s x) else appended s x) not_full
 
-  -- one that fills it: all that is pending is absorbed
+  -- a value that fills a block: all pending values are absorbed
   observed-whole : (s : CellSponge C T) (x : T) → length s.pending + 1 ≡ rule.block_len
       → observed rule s x ≡ duplexed rule (appended s x)
   observed-whole s x full =
@@ -54,13 +54,13 @@ module _ {C T : Type 0} (rule : SpongeRule C T) where
       ∙ ap (λ p. duplexed rule (record { cells = s.cells; pending = p; outputs_left = 0 }))
       (append_assoc s.pending (x ∷ []) (y ∷ ys))
 
-  -- some values that do not fill a block are pending
+  -- values that do not fill a block are pending
   pub all-pending : (s : CellSponge C T) (xs : List T) → 0 < length xs → length s.pending + length xs < rule.block_len
       → observed_all (observed rule) s xs ≡ with_values s xs
   all-pending s [] some short = absurd (omega (arith, some))
   all-pending s (x ∷ xs) some short = all-within s x xs short
 
-  -- some that fill it are absorbed with what is pending
+  -- values that fill a block are absorbed with the pending ones
   pub all-absorbed : (s : CellSponge C T) (xs : List T) → 0 < length xs → length s.pending + length xs ≡ rule.block_len
       → observed_all (observed rule) s xs ≡ duplexed rule (with_values s xs)
   all-absorbed s [] some full = absurd (omega (arith, some))

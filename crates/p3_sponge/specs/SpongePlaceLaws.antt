@@ -1,4 +1,4 @@
--- What place a draw has among the outputs, where all that is pending is absorbed first.
+-- The place of a draw among the outputs, after all pending values are absorbed.
 use Rattle.std.proofs.Common.{◌≡◌, ℕ, zero, suc, ◌<◌, ◌-◌, List, [], ◌∷◌, ◌++◌, map, replicate, refl, sym, ap, ◌∙◌}
 use Rattle.std.{proofs.Common.{append-nil, arith}, specs.List.range_with_len}
 use Rattle.p3_challenger_core.specs.Segments.{run_segments, run_calls, Segment, observe, draw}
@@ -8,22 +8,22 @@ use Rattle.p3_sponge.specs.{SpongeSegments.run_draws, SpongeStepLaws.{sponge_ste
 use Rattle.p3_sponge.specs.{Outputs.{outputs_from, output_at}, SpongeCalls.{sponge_by_calls, SpongeRule, CellSponge}}
 
 module _ {C T : Type 0} (rule : SpongeRule C T) where
-  -- the outputs of cells, from the first of them on
+  -- the outputs of cells, from the first on
   abbrev pub first_outputs : C → ℕ → List T
   first_outputs cells n = map (output_at (outputs_of rule) cells) (range_with_len 0 n)
 
-  -- where all outputs are left
+  -- the places of draws while all outputs are left
   all-places : (cells : C) (n : ℕ)
       → outputs_from (outputs_of rule) cells (rule.row_len - rule.row_len) n ≡ first_outputs cells n
   all-places cells n =
       let none : rule.row_len - rule.row_len ≡ 0 = omega arith in
       ap (λ p. outputs_from (outputs_of rule) cells p n) none ∙ outputs-places (outputs_of rule) cells 0 n
 
-  -- a sponge that values were just absorbed into
+  -- the sponge right after values are absorbed
   abbrev pub after_values : C → List T → CellSponge C T
   after_values cells pending = record { cells = cells; pending = pending; outputs_left = outputs_after rule pending }
 
-  -- its draws begin at place 0
+  -- the draws of that sponge begin at place 0
   pub opened-places : (cells : C) (pending : List T) (n : ℕ)
       → (run_draws rule (after_values cells pending) n).answers
       ≡ first_outputs (opened_cells rule (after_values cells pending)) n

@@ -1,4 +1,4 @@
--- Permutations that give the same on what a sponge queries make it do the same.
+-- A permutation with the same results on a sponge's queries makes the sponge do the same.
 use Rattle.std.proofs.Common.{◌≡◌, [], ◌∷◌, ◌++◌, length, Bool, true, false, ◌==◌, if◌then◌else◌, refl, sym, ap}
 use Rattle.std.{proofs.Common.subst, specs.List.All, proofs.lemmas.List.Elements.All-head}
 use Rattle.p3_challenger_core.specs.Segments.{Call, observe, observe_empty_array, draw}
@@ -13,7 +13,7 @@ module _ {C T : Type 0} (rule : SpongeRule C T) (other : C → C) where
   abbrev pub Agree : C → Type 0
   Agree state = other state ≡ rule.permute state
 
-  -- a step that is made or not
+  -- a conditional step
   same_step : (b : Bool) (s : CellSponge C T)
       → All Agree (if b then permutation_input rule s.cells s.pending ∷ [] else [])
       → (if b then duplexed changed s else s) ≡ (if b then duplexed rule s else s)

@@ -1,4 +1,5 @@
--- What a sponge permutes tells what it observed, where a block over known cells is told by what is permuted.
+-- The states that a sponge permutes determine what it observed, if a state and the cells before it determine the
+-- block.
 use Rattle.std.proofs.Common.{◌<◌, ◌≤◌, Bool, true, false, List, [], ◌∷◌, ◌++◌, length, refl, sym, subst}
 use Rattle.std.proofs.Common.{append_assoc, append-nil, arith, length-append, ◌==◌, if◌then◌else◌}
 use Rattle.p3_challenger_core.specs.Segments.{Call, observe, observe_empty_array, draw, run_calls, run_calls_to_digest}
@@ -51,7 +52,7 @@ module _ {C T : Type 0} (rule : SpongeRule C T) where
     run-fits [] s fits = fits
     run-fits (call ∷ calls) s fits = run-fits calls (run_call rule s call).after (fits-after s fits call)
 
-    -- what is pending, and then what calls observe, is read from what they permute, and from what is permuted after
+    -- the pending values and those that calls observe are read from the states permuted by the calls and after them
     reads-before : (calls : List (Call T)) (s : CellSponge C T) → Fits rule s → (more : List C) (rest : List T)
         → AreReadFrom (run s calls).after.cells more (run s calls).after.pending rest
         → AreReadFrom s.cells ((run s calls).queries ++ more) (s.pending ++ observed_values calls) rest
@@ -73,7 +74,7 @@ module _ {C T : Type 0} (rule : SpongeRule C T) where
         (draw-read (s.outputs_left == 0) s (observed_values calls) (later ++ more) rest fits.short
         (reads-before calls t (fits-after s fits draw) more rest k))
 
-    -- from what they permute and leave pending
+    -- values are read from the states permuted and the values left pending
     pub reads : (calls : List (Call T)) (s : CellSponge C T) → Fits rule s
         → AreReadFrom s.cells (run s calls).queries (s.pending ++ observed_values calls) (run s calls).after.pending
     reads calls s fits =
@@ -82,7 +83,7 @@ module _ {C T : Type 0} (rule : SpongeRule C T) where
         subst (λ (states : List C). AreReadFrom s.cells states values after.pending)
         (append-nil (run s calls).queries) (reads-before calls s fits [] after.pending refl)
 
-    -- or permute up to a digest
+    -- values are read from the states permuted up to a digest
     reads_to_digest : (calls : List (Call T)) (s : CellSponge C T) → Fits rule s
         → AreReadFrom s.cells (run_calls_to_digest (sponge_by_calls rule digest) s calls).queries
         (s.pending ++ observed_values calls) []

@@ -1,4 +1,4 @@
--- A sponge does over segments what the calls do one by one.
+-- A sponge does over segments what it does call by call.
 use Rattle.std.proofs.Common.{◌≡◌, ℕ, zero, suc, ◌<◌, ◌≤◌, ◌+◌, ◌-◌, ◌*◌, ◌/◌, List, [], ◌∷◌, ◌++◌, length, take, drop}
 use Rattle.std.proofs.Common.{Bool, true, false, ◌==◌, refl, sym, ap, subst, ◌∙◌, append_assoc, append-nil}
 use Rattle.std.proofs.{Common.arith, lemmas.Bool.Decides.nat_tests, Math.Nat.div-eq_of_lt}
@@ -16,20 +16,20 @@ pub not_zero : (m : ℕ) → (suc m == 0) ≡ false
 not_zero m = grind (arith, nat_tests)
 
 module _ {C T : Type 0} (rule : SpongeRule C T) where
-  -- what a sponge keeps: fewer values are pending than fill a block, no more outputs are left than there are, and none
-  -- where a value is pending
+  -- Bounds of a sponge. Fewer values are pending than a block has, no more outputs are left than cells give, and none
+  -- while a value is pending.
   pub record Fits (s : CellSponge C T) : Type 0 where
     pub short : length s.pending < rule.block_len
     pub left : s.outputs_left ≤ rule.row_len
     pub none_left : 0 < length s.pending → s.outputs_left ≡ 0
 
-  -- what is permuted where a value is pending
+  -- the input of the permutation while a value is pending
   pub permutation_input-snoc : (cells : C) (pending : List T) (x : T)
       → permutation_input rule cells (pending ++ x ∷ []) ≡ rule.over cells (pending ++ x ∷ [])
   permutation_input-snoc cells [] x = refl
   permutation_input-snoc cells (y ∷ ys) x = refl
 
-  -- and where some are
+  -- the input of the permutation while a block is pending
   pub permutation_input-some : (cells : C) (block : List T) → 0 < length block
       → rule.over cells block ≡ permutation_input rule cells block
   permutation_input-some cells [] some = absurd (omega (arith, some))
@@ -39,13 +39,13 @@ module _ {C T : Type 0} (rule : SpongeRule C T) where
   abbrev queries_first : C → SpongeRun C T → SpongeRun C T
   queries_first state run = record run { queries = state ∷ run.queries }
 
-  -- a value that fills a block: all that is pending is absorbed
+  -- a value that fills a block: all pending values are absorbed
   pub value-full : (s : CellSponge C T) (x : T) → (length (s.pending ++ x ∷ []) == rule.block_len) ≡ true
       → run_value rule s x ≡ (let state = rule.over s.cells (s.pending ++ x ∷ []) in
       record { answers = []; queries = state ∷ []; after = permuting rule state })
   value-full s x full = let snoc = permutation_input-snoc s.cells s.pending x in rw (full, snoc) refl
 
-  -- one that does not is pending
+  -- a value that does not fill a block is pending
   pub value-short : (s : CellSponge C T) (x : T) → (length (s.pending ++ x ∷ []) == rule.block_len) ≡ false
       → run_value rule s x ≡ stays (appended s x)
   value-short s x short = rw short refl
@@ -63,7 +63,7 @@ module _ {C T : Type 0} (rule : SpongeRule C T) where
         let blocks : length values / rule.block_len ≡ 0 = div-eq_of_lt short in
         rw (blocks, none) refl
 
-    -- a whole block is absorbed, and then what is after it
+    -- a whole block is absorbed, followed by the rest
     absorbed-block : (cells : C) (block more : List T) → length block ≡ rule.block_len
         → absorbed rule cells (block ++ more)
         ≡ queries_first (rule.over cells block) (absorbed rule (rule.permute (rule.over cells block)) more)
@@ -115,7 +115,7 @@ module _ {C T : Type 0} (rule : SpongeRule C T) where
         let one : length (s.pending ++ x ∷ []) ≡ length s.pending + 1 = length-append s.pending (x ∷ []) in
         grind (arith, nat_tests)
 
-    -- a value and then more are absorbed as one list
+    -- a value followed by more is absorbed as one list
     values-by : (b : Bool) (s : CellSponge C T) (x : T) (ys : List T) → Fits s
         → (length (s.pending ++ x ∷ []) == rule.block_len) ≡ b
         → (let run = run_value rule s x in run_before run (run_values rule run.after ys))
@@ -164,13 +164,13 @@ module _ {C T : Type 0} (rule : SpongeRule C T) where
 
     -- ---- what is drawn
 
-    -- where nothing is pending, draws are those of the cells alone
+    -- without pending values, draws are those of the cells alone
     draws-emptied : (cells : C) (left k : ℕ)
         → outputs.run_draws (outputs_of rule) emptied cells left k ≡ run_draws rule (emptied cells left) k
     draws-emptied cells left zero = refl
     draws-emptied cells left (suc k) = refl
 
-    -- a draw that finds an output, and then k draws
+    -- a draw that finds an output, followed by k draws
     abbrev then_draws : C → ℕ → ℕ → SpongeRun C T
     then_draws cells left k =
         let next = run_draws rule (emptied cells (left - 1)) k in
@@ -189,7 +189,7 @@ module _ {C T : Type 0} (rule : SpongeRule C T) where
         ≡ record { answers = rule.output cells (suc m - 1) ∷ []; queries = []; after = emptied cells (suc m - 1) }
     drawn-left cells m = rw (not_zero m) refl
 
-    -- a draw and then k draws are one draw more
+    -- one draw followed by k draws is k + 1 draws
     next-by : (cells : C) (pending : List T) (left k : ℕ) → left ≤ rule.row_len → (0 < length pending → left ≡ 0)
         → run_draws rule (record { cells = cells; pending = pending; outputs_left = left }) (suc k)
         ≡ (let run = run_draw rule (record { cells = cells; pending = pending; outputs_left = left }) in

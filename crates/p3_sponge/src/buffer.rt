@@ -1,8 +1,8 @@
-//! The buffer of what is pending.
+//! The buffer of pending values.
 ghost use Rattle.std.specs.Prelude.{◌≡◌, ◌≤◌, ◌+◌, ◌++◌, length, take, drop};
 
-/// Writes values into a buffer after its first `start` places, which stay, as do those behind the values. Not in the
-/// Rust crate.
+/// Writes values into a buffer after its first `start` places. All other places stay the same. Not in the Rust
+/// crate.
 ///
 /// Condition: the buffer has room for them.
 pub fn write_after<T: Copy>(buffer: &mut [T], start: usize, values: &[T])

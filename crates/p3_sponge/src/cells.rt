@@ -1,11 +1,11 @@
-//! Cells of a sponge over a prime field, as a block is written over the rate.
+//! Cells of a sponge over a prime field, with a block written over the rate.
 ghost use Rattle.std.specs.Prelude.{◌≡◌, ◌<◌, ◌≤◌, length, replicate, take};
 ghost use Rattle.p3_field_core.specs.Residues.{plus};
 ghost use Rattle.p3_sponge.specs.Cells.{counted_over, overwritten};
 
 use p3_field_core::PrimeField64;
 
-/// The element 0. Not in the Rust crate.
+/// Returns the element 0. Not in the Rust crate.
 pub fn zero<F: PrimeField64>() -> F
     ensures { result ≡ F.residues.of 0 }
 {
@@ -29,10 +29,10 @@ pub fn count<F: PrimeField64>(cells: &mut [F], rate: usize, n: u64)
     cells[rate] = plus_number(cells[rate], n);
 }
 
-/// Writes a block over the rate with zeros after it, and adds how many values it has to the cell after the rate. Not in
-/// the Rust crate.
+/// Writes a block over the rate with zeros after it, and adds the length of the block to the cell after the rate. Not
+/// in the Rust crate.
 ///
-/// Conditions: the block is at most as long as the rate, and there is a cell after that.
+/// Conditions: the block is at most as long as the rate, and there is a cell after the rate.
 // It is written out at each call: the length of a whole block is known there.
 #[inline(always)]
 pub fn overwrite<F: PrimeField64>(cells: &mut [F], block: &[F], rate: usize)

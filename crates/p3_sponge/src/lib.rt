@@ -1,5 +1,5 @@
-//! What challengers over permutations and hash functions share: cells of a sponge, a sponge call by call and over
-//! segments of calls, outputs in a row, and lemmas on them.
+//! The common parts of challengers over permutations and hash functions. They are cells of a sponge, a sponge
+//! call by call and over segments of calls, sequences of outputs, and lemmas on them.
 #![tactic(auto)]
 
 mod buffer;

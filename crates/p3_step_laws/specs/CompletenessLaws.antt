@@ -1,4 +1,4 @@
--- Laws of what a verifier does at a step that a prover has played.
+-- Laws of a verifier at a step that a prover has played.
 use Rattle.std.proofs.{Common.{◌≡◌, ℕ, List, ◌++◌, true}, Common.ap}
 use Rattle.p3_fs_core.specs.declared.error.{TranscriptError.TranscriptError, TranscriptError.TheVariants.OutOfMemory}
 use Rattle.p3_fs_core.specs.declared.error.TranscriptError.TheVariants.{BadProofShape, Pattern, Challenger}
@@ -25,7 +25,7 @@ module _ {S Symbol A : Type 0} (m : Meaning S Symbol A) (r : Reading S Symbol A)
   mirror-refuses before after rest start end OutOfMemory plays at refuses = tt
   mirror-refuses before after rest start end _ plays at refuses = refuses
 
-  -- what is mirrored follows
+  -- a mirrored step is completed
   pub read_back-completes : Completes m r x
   read_back-completes =
       record {
@@ -43,7 +43,7 @@ module _ {S Symbol A : Type 0} (m : Meaning S Symbol A) (r : Reading S Symbol A)
         refuses = mirror-refuses;
       }
 
--- a step that reads and is refused is the last one
+-- a reading step that is refused is the last one
 pub unread-last : {S Symbol A : Type 0} (r : Reading S Symbol A) (before after : Driving S) (e : TranscriptError) →
     RefusesToRead r before e after → after.transcript.playing.finished ≡ true
 unread-last r before after (BadProofShape reason) refuses = refuses.finished
@@ -53,10 +53,10 @@ unread-last r before after (Challenger _) refuses = refuses.abandons.finished
 unread-last r before after OutOfMemory refuses = refuses.finished
 unread-last r before after _ refuses = absurd refuses
 
--- ---- a step that both play alike
+-- ---- a step that both sides play from one state
 
 module _ {S Symbol A : Type 0} (m : Meaning S Symbol A) where
-  -- a step that is next is refused for the sake of the challenger or of memory alone
+  -- the next step is refused only by the challenger or for memory
   pub next-own_refusal : (before after : Transcript S) (e : TranscriptError) → IsNext before.playing m.interaction →
       RefusesStep m before e after → IsOwnRefusal e
   next-own_refusal before after (Pattern e) next refuses =
@@ -65,7 +65,7 @@ module _ {S Symbol A : Type 0} (m : Meaning S Symbol A) where
   next-own_refusal before after OutOfMemory next refuses = tt
   next-own_refusal before after _ next refuses = refuses
 
-  -- whatever the step means
+  -- every such step is completed, whatever it means
   pub step-completes : CompletesAlike m
   step-completes =
       record {
@@ -81,7 +81,7 @@ module _ {S Symbol A : Type 0} (m : Meaning S Symbol A) where
 
 -- ---- the end
 
--- a verifier that has played all steps and has read all bytes is not refused the end
+-- a verifier that has played all steps and read all bytes is not refused at the end
 pub reading-ends : {S : Type 0} (v : Driving S) (e : TranscriptError) → EndsReading v → RefusesEnd v e → ⊥
 reading-ends v (BadProofShape reason) ends refuses = refuses.1 ends.whole
 reading-ends v (Pattern e) ends refuses = played-ends v.transcript.playing (Pattern e) ends.played refuses

@@ -1,4 +1,4 @@
--- A step that is next and meets no limit is refused only when out of memory.
+-- The next step, if it meets no limit, is refused only when out of memory.
 use Rattle.std.proofs.Common.{◌≡◌, IsSome, refl}
 use Rattle.p3_challenger_core.specs.declared.error.ChallengerError.TheVariants.{DrawLimit, NoWitness, TooLong}
 use Rattle.p3_fs_core.specs.declared.error.TranscriptError.{TranscriptError, TheVariants.{Challenger, OutOfMemory}}

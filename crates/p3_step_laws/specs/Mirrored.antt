@@ -1,4 +1,4 @@
--- What is so of each step of a kind that sends, of the step that reads it, and of the value.
+-- Facts of each kind of sending step, of the step that reads it, and of the value.
 use Rattle.std.specs.Prelude.{◌^◌, ◌<◌, ◌≤◌, ℕ, List, length}
 use Rattle.p3_field_core.specs.Residues.{Residues}
 use Rattle.p3_challenger_core.specs.{Observation.Observation, Sampling.Sampling}
@@ -9,11 +9,11 @@ use Rattle.p3_driver_core.specs.{Meanings.{hinted, hinted_bounded}, Transcripts.
 use Rattle.p3_driver_core.specs.Reads.{Reading, received, received_list, received_bounded, received_bytes}
 use Rattle.p3_driver_core.specs.Reads.{received_bytes_bounded, hint_received, hint_received_bounded}
 
--- of what a step that sends means, what one that reads means, and a value
+-- a relation of the meaning of a sending step, the meaning of a reading step, and a value
 abbrev pub Mirroring : Type 0 → Type 0 → Type 0 → Type 1
 Mirroring S Symbol A = Meaning S Symbol A → Reading S Symbol A → A → Type 0
 
--- each value; each list; and each list after its count, of at most so many, which is below 2^64, as a `usize` is
+-- each value, each list, and each list after its count, whose greatest length is below 2^64, as for a `usize`
 abbrev pub EachValue : {S Symbol A : Type 0} → Mirroring S Symbol A → Observation S Symbol A → Encoding A → Type 0
 EachValue {A = A} Holds o e = (step : Step) (x : A) → Holds (sent step o e x) (received step o e) x
 
@@ -26,7 +26,7 @@ abbrev pub EachCountedList : {S Symbol I A : Type 0} → Mirroring S Symbol (Lis
 EachCountedList {A = A} Holds alphabet o e = (step : Step) (max : ℕ) (xs : List A) → length xs ≤ max → max < 2 ^ 64 →
     Holds (sent_bounded step alphabet max o e xs) (received_bounded step alphabet max o e) xs
 
--- bytes, as they are, and after their count
+-- each byte string, as it is and after its count
 abbrev pub EachBytes : {S Symbol I : Type 0} → Mirroring S Symbol (List ℕ) → Alphabet S Symbol I → Type 0
 EachBytes Holds alphabet = (kind : Kind) (label bytes : List ℕ) →
     Holds (sent_bytes kind label alphabet bytes) (received_bytes kind label alphabet (length bytes)) bytes
@@ -35,7 +35,7 @@ abbrev pub EachCountedBytes : {S Symbol I : Type 0} → Mirroring S Symbol (List
 EachCountedBytes Holds alphabet = (label : List ℕ) (max : ℕ) (bytes : List ℕ) → length bytes ≤ max → max < 2 ^ 64 →
     Holds (sent_bytes_bounded Message label alphabet max bytes) (received_bytes_bounded label alphabet max) bytes
 
--- and of a hint
+-- each hint, as it is and after its count
 abbrev pub EachHint : {S Symbol : Type 0} → Mirroring S Symbol (List ℕ) → Type 0
 EachHint Holds = (label bytes : List ℕ) → Holds (hinted label bytes) (hint_received label (length bytes)) bytes
 
@@ -43,7 +43,7 @@ abbrev pub EachCountedHint : {S Symbol : Type 0} → Mirroring S Symbol (List �
 EachCountedHint Holds = (label : List ℕ) (max : ℕ) (bytes : List ℕ) → length bytes ≤ max → max < 2 ^ 64 →
     Holds (hinted_bounded label max bytes) (hint_received_bounded label max) bytes
 
--- proof of work, of so many bits, with the encoding of its witnesses
+-- each proof of work with a number of bits, and the encoding of its witnesses
 abbrev pub EachWork : {S Symbol W : Type 0} → (Work S Symbol W → Encoding W → Type 0) → Residues W → ℕ →
     Sampling S (Unit {0}) → Observation S Symbol W → (ℕ → Sampling S ℕ) → Type 0
 EachWork Holds residues bit_length before o bit_draws =

@@ -1,4 +1,4 @@
--- Laws of rounds one after another: what is so of one makes what is so of many.
+-- Laws of successive rounds: from facts of one round to facts of many.
 use Rattle.std.proofs.Common.{◌≡◌, ℕ, zero, suc, ◌+◌, ◌<◌, ◌≤◌, false, List, [], ◌∷◌, ◌++◌, length, take, get_or, refl}
 use Rattle.std.proofs.{Common.{sym, ap, subst, ◌∙◌, arith, add-one, append-nil, append_assoc}, Math.Seq.take-suc}
 use Rattle.std.{proofs.lemmas.List.length-append, specs.List.flat_map}
@@ -7,12 +7,12 @@ use Rattle.p3_patterns.specs.Playing.{Playing, IsPlayed}
 use Rattle.p3_driver_core.specs.{Transcripts.{Transcript, AreNext, step_on, steps_on}, Driving.Driving}
 use Rattle.p3_step_laws.specs.Rounds.{AreRounds, steps_of_rounds}
 
--- a verifier stands before rounds: at this state, with their bytes next, and then the rest
+-- a verifier stands before rounds: at this state, with the bytes of the rounds next, followed by the rest
 abbrev pub StandsBefore : {S X : Type 0} → (X → List ℕ) → List ℕ → Transcript S → List X → Driving S → Type 0
 StandsBefore wire rest transcript xs v = v ≡ record { transcript = transcript; bytes = flat_map wire xs ++ rest }
 
--- Of rounds that one side has played to its end, another side has played these, and is here now: they are the first
--- ones. And this is so of the two sides before those that are left.
+-- One side has played rounds to their end. Another side has played these, the first of them, and is here now. This
+-- relation holds of the two sides before the rounds that are left.
 pub record CompletesSoFar {V W X : Type 0} (IsRound : V → X → V → Type 0) (IsBefore : V → List X → W → Type 0)
     (rounds : List X) (end : V) (so_far : List X) (here : W) : Type 0 where
   pub start : V
@@ -22,20 +22,20 @@ pub record CompletesSoFar {V W X : Type 0} (IsRound : V → X → V → Type 0) 
   pub before : IsBefore start left here
 
 module _ {V X : Type 0} (IsRound : V → X → V → Type 0) where
-  -- rounds, and others after them
+  -- rounds, followed by others
   pub rounds-then : (before : V) (xs : List X) (here : V) (ys : List X) (after : V) → AreRounds IsRound before xs here →
       AreRounds IsRound here ys after → AreRounds IsRound before (xs ++ ys) after
   rounds-then before [] here ys after first then = subst (λ v. AreRounds IsRound v ys after) first then
   rounds-then before (x ∷ xs) here ys after first then =
       (first.0, first.1, rounds-then first.0 xs here ys after first.2 then)
 
-  -- a round more
+  -- one more round
   pub rounds-more : (before : V) (xs : List X) (here : V) (x : X) (after : V) → AreRounds IsRound before xs here →
       IsRound here x after → AreRounds IsRound before (xs ++ (x ∷ [])) after
   rounds-more before xs here x after so_far more =
       rounds-then before xs here (x ∷ []) after so_far (after, more, refl)
 
-  -- a list is gone through, and its next item makes a round more
+  -- the next item of a list makes one more round
   pub rounds-taken : (before : V) (xs : List X) (i : ℕ) (here : V) (x : X) (after : V) → i < length xs →
       x ≡ get_or xs i x → AreRounds IsRound before (take i xs) here → IsRound here x after →
       AreRounds IsRound before (take (i + 1) xs) after
@@ -43,7 +43,7 @@ module _ {V X : Type 0} (IsRound : V → X → V → Type 0) where
       let taken : take (i + 1) xs ≡ take i xs ++ (x ∷ []) = rw (add-one, take-suc xs i x below, ← is) in
       rw taken (rounds-more before (take i xs) here x after so_far more)
 
-  -- what is seen of each round, through a part of the states, is seen of all
+  -- if a part of the state sees each round, it sees all rounds
   pub rounds-seen : {W : Type 0} (seen : V → W) (IsSeen : W → X → W → Type 0) → ((before : V) (x : X) (after : V) →
       IsRound before x after → IsSeen (seen before) x (seen after)) → (before : V) (xs : List X) (after : V) →
       AreRounds IsRound before xs after → AreRounds IsSeen (seen before) xs (seen after)
@@ -51,7 +51,7 @@ module _ {V X : Type 0} (IsRound : V → X → V → Type 0) where
   rounds-seen seen IsSeen each before (x ∷ xs) after rounds =
       (seen rounds.0, each before x rounds.0 rounds.1, rounds-seen seen IsSeen each rounds.0 xs after rounds.2)
 
-  -- what each round writes, all write in order
+  -- if each round writes its bytes, all write theirs in order
   pub rounds-written : {A : Type 0} (written : V → List A) (wire : X → List A) → ((before : V) (x : X) (after : V) →
       IsRound before x after → written after ≡ written before ++ wire x) → (before : V) (xs : List X) (after : V) →
       AreRounds IsRound before xs after → written after ≡ written before ++ flat_map wire xs
@@ -59,8 +59,8 @@ module _ {V X : Type 0} (IsRound : V → X → V → Type 0) where
   rounds-written written wire each before (x ∷ xs) after rounds =
       rw (rounds-written written wire each rounds.0 xs after rounds.2, each before x rounds.0 rounds.1, append_assoc)
 
-  -- what each round reads, all read in order; what this takes of a state, as that what it has left are bytes, each
-  -- keeps
+  -- If each round reads its bytes, all read theirs in order. Each round preserves the premise on the state, such as
+  -- that the unread values are bytes.
   pub rounds-read : {A : Type 0} (Is : V → Type 0) (unread : V → List A) (wire : X → List A) → ((before : V) (x : X)
       (after : V) → Is before → IsRound before x after → (unread before ≡ wire x ++ unread after) × Is after) →
       (before : V) (xs : List X) (after : V) → Is before → AreRounds IsRound before xs after →
@@ -71,11 +71,11 @@ module _ {V X : Type 0} (IsRound : V → X → V → Type 0) where
       let then = rounds-read Is unread wire each rounds.0 xs after first.1 rounds.2 in
       (rw (first.0, then.0, append_assoc), then.1)
 
--- ---- two sides, where something is so of them before rounds that are left
+-- ---- two sides, with a relation between them before the rounds that are left
 
 module _ {V W X : Type 0} (IsRound : V → X → V → Type 0) (IsOther : W → X → W → Type 0)
     (IsBefore : V → List X → W → Type 0) where
-  -- where the other side can play each round that the one played, it can play all of them
+  -- if the other side can play each round of the first side, it can play all of them
   pub rounds-matched : ((v : V) (x : X) (xs : List X) (after : V) (w : W) → IsBefore v (x ∷ xs) w →
       IsRound v x after → (u : W) × IsOther w x u × IsBefore after xs u) → (v : V) (xs : List X) (end : V) (w : W) →
       IsBefore v xs w → AreRounds IsRound v xs end → (u : W) × AreRounds IsOther w xs u × IsBefore end [] u
@@ -85,10 +85,10 @@ module _ {V W X : Type 0} (IsRound : V → X → V → Type 0) (IsOther : W → 
       let then = rounds-matched each rounds.0 xs end first.0 first.2 rounds.2 in
       (then.0, (first.0, first.1, then.1), then.2)
 
-  -- where it can play no other
+  -- where the other side can play no other round
   module _ (each : (v : V) (x : X) (xs : List X) (after : V) (w : W) (y : X) (u : W) → IsBefore v (x ∷ xs) w →
       IsRound v x after → IsOther w y u → (y ≡ x) × IsBefore after xs u) where
-    -- no more rounds than the one played are the first ones of these
+    -- no more rounds than the one side played are the first of its rounds
     pub rounds-completed : (v : V) (xs : List X) (end : V) (w : W) (ys : List X) (u : W) → IsBefore v xs w →
         AreRounds IsRound v xs end → AreRounds IsOther w ys u → length ys ≤ length xs →
         CompletesSoFar IsRound IsBefore xs end ys u
@@ -120,14 +120,14 @@ module _ {V W X : Type 0} (IsRound : V → X → V → Type 0) (IsOther : W → 
     none-left xs end ys u start (x ∷ left) split plays before many =
         absurd (omega (arith, many, ap length split, length-append ys (x ∷ left)))
 
-    -- and as many are these
+    -- equally many rounds are its rounds
     pub rounds-same : (v : V) (xs : List X) (end : V) (w : W) (ys : List X) (u : W) → IsBefore v xs w →
         AreRounds IsRound v xs end → AreRounds IsOther w ys u → length ys ≡ length xs → (ys ≡ xs) × IsBefore end [] u
     rounds-same v xs end w ys u before rounds others many =
         let so_far = rounds-completed v xs end w ys u before rounds others (omega (arith, many)) in
         none-left xs end ys u so_far.start so_far.left so_far.split so_far.plays so_far.before many
 
--- a verifier that stands before rounds has the bytes of the first one next
+-- a verifier before rounds has the bytes of the first one next
 pub StandsBefore-first : {S X : Type 0} (wire : X → List ℕ) (rest : List ℕ) (transcript : Transcript S) (x : X)
     (xs : List X) (v : Driving S) → StandsBefore wire rest transcript (x ∷ xs) v →
     v ≡ record { transcript = transcript; bytes = wire x ++ (flat_map wire xs ++ rest) }
@@ -146,7 +146,7 @@ steps_on-append : (first then : List Step) (playing : Playing) →
 steps_on-append [] then playing = refl
 steps_on-append (s ∷ first) then playing = steps_on-append first then (step_on playing)
 
--- where each round has its steps next and passes them, all do
+-- if each round has its steps next and passes them, so do all
 pub rounds-steps : {V X : Type 0} (IsRound : V → X → V → Type 0) (playing : V → Playing) (steps : X → List Step) →
     ((before : V) (x : X) (after : V) → IsRound before x after →
     AreNext (steps x) (playing before) × (playing after ≡ steps_on (steps x) (playing before))) →
@@ -159,13 +159,13 @@ rounds-steps IsRound playing steps each before (x ∷ xs) after rounds =
     let later = rw first.1 at then.0 in
     (next-append (steps x) (flat_map steps xs) (playing before) first.0 later, rw (then.1, first.1, steps_on-append))
 
--- the steps of rounds that have the same ones
+-- the steps of rounds, each with the same steps
 pub steps_of_rounds-flat : {X : Type 0} (steps : List Step) (xs : List X) →
     flat_map (λ _. steps) xs ≡ steps_of_rounds steps (length xs)
 steps_of_rounds-flat steps [] = refl
 steps_of_rounds-flat steps (x ∷ xs) = ap (λ others. steps ++ others) (steps_of_rounds-flat steps xs)
 
--- those of some rounds, and of others after them
+-- the steps of some rounds, and of others after them
 pub steps_of_rounds-then : (steps : List Step) (n k : ℕ) →
     steps_of_rounds steps (n + k) ≡ steps_of_rounds steps n ++ steps_of_rounds steps k
 steps_of_rounds-then steps zero k = ap (steps_of_rounds steps) (omega arith)
@@ -173,7 +173,7 @@ steps_of_rounds-then steps (suc n) k =
     let next : suc n + k ≡ suc (n + k) = omega arith in
     rw (next, steps_of_rounds-then steps n k, append_assoc)
 
--- a player that passes the last steps of its pattern has played it
+-- a player that passes the last steps of its pattern has played the pattern
 pub listed-played : (before steps : List Step) (playing : Playing) → playing.pattern.steps ≡ before ++ steps →
     playing.position ≡ length before → playing.finished ≡ false → IsPlayed (steps_on steps playing)
 listed-played before [] playing has at going =

@@ -1,8 +1,8 @@
-//! The steps that leave the proof as it is: from one state, a prover and a verifier play them alike.
+//! The steps that leave the proof as it is: from one state, a prover and a verifier agree on them.
 //!
-//! Each law is a function with an empty body: a caller calls it, and cites its clauses. Where the prover's step was
-//! played, and the verifier stands at the state before it, what comes of the verifier's step is the same, and so is the
-//! state after it; or it is refused for the sake of the challenger or of memory alone.
+//! Each law is a function with an empty body: a caller calls it, and cites its clauses. Its premises are that the
+//! prover's step was played, and that the verifier is at the state before it. Then the verifier's step has the same
+//! result and the same state after it. Otherwise the verifier's challenger or memory refuses the step.
 ghost use Rattle.std.specs.Prelude.{◌≡◌, ◌<◌, ◌≤◌, ℕ, List, true, false};
 ghost use Rattle.p3_fs_core.specs.{Steps.Step, declared.error.TranscriptError.TranscriptError};
 ghost use Rattle.p3_patterns.specs.Playing.{next_step};
@@ -17,14 +17,14 @@ use p3_codecs::{AlphabetOf, Codec, Unit};
 use p3_fs_core::Length;
 use p3_grinding::{CanSampleUniformBits, GrindingChallenger};
 
-/// Containers are opened and closed alike.
+/// Both sides open and close containers in the same way.
 ///
 /// A law: the body is empty, and a caller cites the clause.
 pub fn markers_agree<C: Sponge>()
     ensures { (step : Step) → CompletesAlike {S = C.State} {Symbol = C.Symbol} (marked step) }
 {}
 
-/// One value, and the values of a list, are observed alike.
+/// Both sides observe one value, and the values of a list, in the same way.
 ///
 /// A law: the body is empty, and a caller cites the clauses.
 pub fn observed_values_agree<A, C: Sponge, Cdc: Codec<C, A>>()
@@ -33,7 +33,7 @@ pub fn observed_values_agree<A, C: Sponge, Cdc: Codec<C, A>>()
         CompletesAlike (observed_list step Cdc.observation xs) }
 {}
 
-/// The values of a list of at most so many are observed alike, after their count.
+/// Both sides observe the values of a bounded list, after their count, in the same way.
 ///
 /// A law: the body is empty, and a caller cites the clause.
 pub fn observed_counted_values_agree<A, U: Unit, C: CanObserve<U::Item>, Cdc: Codec<C, A>>()
@@ -41,14 +41,14 @@ pub fn observed_counted_values_agree<A, U: Unit, C: CanObserve<U::Item>, Cdc: Co
         (observed_bounded step ⟦<U as AlphabetOf<C>>⟧.alphabet max Cdc.observation xs) }
 {}
 
-/// A value is observed alike as the challenger itself knows how.
+/// Both sides observe an opaque value in the same way.
 ///
 /// A law: the body is empty, and a caller cites the clause.
 pub fn opaque_values_agree<T, C: CanObserve<T>>()
     ensures { (step : Step) (x : T) → CompletesAlike (observed step C.observation x) }
 {}
 
-/// One value, so many values, and so many that a rule takes, are drawn alike.
+/// Both sides draw one value, `n` values, and `n` values that a rule accepts, in the same way.
 ///
 /// A law: the body is empty, and a caller cites the clauses.
 pub fn drawn_values_agree<A, C: Sponge, Cdc: Codec<C, A>>()
@@ -59,7 +59,7 @@ pub fn drawn_values_agree<A, C: Sponge, Cdc: Codec<C, A>>()
         CompletesAlike {Symbol = C.Symbol} (drawn_rejecting step Cdc.sampling rule limit n) }
 {}
 
-/// So many numbers of so many bits are drawn alike.
+/// Both sides draw numbers of a given bit width in the same way.
 ///
 /// A law: the body is empty, and a caller cites the clause.
 pub fn drawn_bits_agree<C: CanSampleBits<usize>>()
@@ -67,7 +67,7 @@ pub fn drawn_bits_agree<C: CanSampleBits<usize>>()
         CompletesAlike {Symbol = C.Symbol} (drawn_list step (C.bits_sampling width) n) }
 {}
 
-/// So many numbers of so many uniform bits, and so many that a rule takes, are drawn alike.
+/// Both sides draw numbers of uniform bits, with and without a rule, in the same way.
 ///
 /// A law: the body is empty, and a caller cites the clauses.
 pub fn drawn_uniform_bits_agree<F, C: CanSampleUniformBits<F>>()
@@ -77,8 +77,8 @@ pub fn drawn_uniform_bits_agree<F, C: CanSampleUniformBits<F>>()
         {Symbol = C.Symbol} (drawn_rejecting step (C.uniform true width).draw rule limit n) }
 {}
 
-/// A witness that a prover has answered passes the check of a verifier whose caller carries it, which is refused for
-/// only being out of memory.
+/// A witness that a prover has returned passes the check of a verifier whose caller carries it. The check is refused
+/// only when out of memory.
 ///
 /// A law: the body is empty, and a caller cites the clause.
 pub fn carried_work_agrees<C: GrindingChallenger>()
@@ -86,8 +86,8 @@ pub fn carried_work_agrees<C: GrindingChallenger>()
         (work_of step C.Witness.residues C.before_witness C.observation C.bits_sampling bits) x }
 {}
 
-/// A list that a caller carries is let through by a verifier of which no step was refused: where it is no longer than
-/// its step lets it be, and where it is as long as the next step says.
+/// A verifier that has refused no step accepts the length of a caller's list. The list is no longer than its step
+/// allows, or as long as the next step says.
 ///
 /// A law: the body is empty, and a caller cites the clauses.
 pub fn carried_lists_are_let_through<C: Sponge>()
@@ -99,7 +99,7 @@ pub fn carried_lists_are_let_through<C: Sponge>()
         (IsOtherLength len (next_step start.transcript.playing)) another_length start e end → ⊥ }
 {}
 
-/// A verifier that has played all steps and has read all bytes is not refused the end.
+/// A verifier that has played all steps and read all bytes is not refused at the end.
 ///
 /// A law: the body is empty, and a caller cites the clause.
 pub fn ended_verifiers_are_not_refused<C: Sponge>()

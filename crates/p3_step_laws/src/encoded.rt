@@ -1,9 +1,9 @@
-//! What a verifier's step reads of a proof is encoded as the prover's step writes it: of `next_..` as of `add_..`, of
-//! `check_pow` as of `pow`.
+//! What a verifier's step reads from a proof is encoded as the prover's step writes it. The steps are `next_..` and
+//! `add_..`, or `check_pow` and `pow`.
 //!
-//! The laws of mirrors say that what is written is read. These say the converse: bytes of which a step reads a
-//! value begin with the one encoding of that value. So a proof that is read to its end is what a prover writes of the
-//! values that were read.
+//! By the laws of mirrors, what is written is read. These laws are the converse: bytes from which a step reads a value
+//! begin with the one encoding of that value. So a proof that is read to its end is what a prover writes for the values
+//! that were read.
 ghost use Rattle.std.specs.Prelude.{◌≡◌, ◌≤◌, ℕ, List, length};
 ghost use Rattle.p3_fs_core.specs.Steps.{Step};
 ghost use Rattle.p3_driver_core.specs.Meanings.{sent_bytes_bounded, hinted_bounded, sent_bounded, sent_bytes};
@@ -17,9 +17,9 @@ use p3_codecs::{AlphabetOf, Codec, Unit};
 use p3_fs_core::Kind;
 use p3_grinding::GrindingChallenger;
 
-/// Where a verifier's step reads one value, the bytes begin with its encoding. Where it reads a list of so many, the
-/// list has so many, and the bytes begin with the encodings of its values in order. Where it reads a list after its
-/// count, the list has at most so many, and the bytes begin with its count and these encodings.
+/// If a verifier's step reads one value, the bytes begin with its encoding. If it reads a list of `n` values, the list
+/// has length `n`, and the bytes begin with the encodings of its values in order. If it reads a list after its count,
+/// the list is within its maximum, and the bytes begin with its count and these encodings.
 ///
 /// A law: the body is empty, and a caller cites the clauses.
 pub fn read_values_are_encoded<A, U: Unit, C: CanObserve<U::Item>, Cdc: Codec<C, A>>()
@@ -32,8 +32,8 @@ pub fn read_values_are_encoded<A, U: Unit, C: CanObserve<U::Item>, Cdc: Codec<C,
         (λ xs. length xs ≤ max) (sent_bounded step alphabet max Cdc.observation Cdc.encoding) }
 {}
 
-/// Where a verifier's step reads so many bytes, they are so many, and the proof's bytes begin with them. Where it reads
-/// bytes after their count, they are at most so many, and the proof's bytes begin with their count and them.
+/// If a verifier's step reads `n` bytes, the proof begins with them. If it reads bytes after their count, they are
+/// within their maximum, and the proof begins with their count and them.
 ///
 /// A law: the body is empty, and a caller cites the clauses.
 pub fn read_bytes_are_encoded<U: Unit, C: CanObserve<U::Item>>()
@@ -45,7 +45,7 @@ pub fn read_bytes_are_encoded<U: Unit, C: CanObserve<U::Item>>()
         (λ bytes. length bytes ≤ max) (sent_bytes_bounded Kind.Message label alphabet max) }
 {}
 
-/// The same of a hint.
+/// If a verifier's step reads a hint, the proof begins with it, after its count if it has one.
 ///
 /// A law: the body is empty, and a caller cites the clauses.
 pub fn read_hints_are_encoded<C: Sponge>()
@@ -55,7 +55,7 @@ pub fn read_hints_are_encoded<C: Sponge>()
         (hint_received_bounded label max) (λ bytes. length bytes ≤ max) (hinted_bounded label max) }
 {}
 
-/// Where a verifier's step reads a witness, the bytes begin with its encoding, whether or not it then passes.
+/// If a verifier's step reads a witness, the bytes begin with its encoding, whether or not it then passes.
 ///
 /// A law: the body is empty, and a caller cites the clause.
 pub fn read_work_is_encoded<C: GrindingChallenger>()

@@ -1,6 +1,6 @@
-//! Laws of what the steps of a transcript mean: that what a verifier reads is encoded so, and why a step is refused.
+//! Laws of a transcript's steps: the encoding of what a verifier reads, and the reasons why a step is refused.
 //!
-//! What is called a law is a function without effect whose contract a caller cites. The Rust crate has none.
+//! A law is a function without effect whose contract a caller cites. The Rust crate has none.
 #![tactic(auto)]
 
 mod agreements;

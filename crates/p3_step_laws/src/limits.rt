@@ -1,5 +1,5 @@
-//! A challenger or an alphabet refuses a step only where a limit is met, and the error says which: a draw that meets
-//! its limit, or bytes that are too long for the alphabet. Laws, of every challenger, codec and alphabet.
+//! Laws of every challenger, codec and alphabet: they refuse a step only if it meets a limit, and the error says which.
+//! The limits are that of a draw and the alphabet's on the length of bytes.
 ghost use Rattle.std.specs.Prelude.{ℕ, List, length, true};
 ghost use Rattle.p3_fs_core.specs.{BigEndian.count_bytes, Steps.Step};
 ghost use Rattle.p3_driver_core.specs.Effects.{untouched, observing, observing_list, observing_bytes, drawing};
@@ -11,8 +11,8 @@ use p3_challenger_core::{CanObserve, CanSampleBits, Sponge};
 use p3_codecs::{AlphabetOf, Codec, Unit};
 use p3_grinding::{CanSampleUniformBits, GrindingChallenger};
 
-/// A step of one value, and one of a list, meets no limit. One of a list after its count is refused as too long only
-/// where the count's bytes do not fit the alphabet.
+/// A step of one value or of a list meets no limit. A step of a list after its count is refused as too long only if the
+/// count's bytes do not fit the alphabet.
 ///
 /// A law: the body is empty, and a caller cites the clauses.
 pub fn values_tell_limits<A, U: Unit, C: CanObserve<U::Item>, Cdc: Codec<C, A>>()
@@ -23,14 +23,14 @@ pub fn values_tell_limits<A, U: Unit, C: CanObserve<U::Item>, Cdc: Codec<C, A>>(
         (observing_list Cdc.observation xs)) }
 {}
 
-/// A step of a value that the challenger itself knows how to observe meets no limit.
+/// A step of an opaque value meets no limit.
 ///
 /// A law: the body is empty, and a caller cites the clause.
 pub fn opaque_values_tell_limits<T, C: CanObserve<T>>()
     ensures { (x : T) → TellsLimits (observing C.observation x) }
 {}
 
-/// A step of bytes is refused as too long only where they, or the bytes of their count, do not fit the alphabet.
+/// A step of bytes is refused as too long only if they, or the bytes of their count, do not fit the alphabet.
 ///
 /// A law: the body is empty, and a caller cites the clauses.
 pub fn bytes_tell_limits<U: Unit, C: CanObserve<U::Item>>()
@@ -48,8 +48,8 @@ pub fn markers_and_hints_tell_limits<A, C: Sponge>()
     ensures { (x : A) → TellsLimits {S = C.State} {Symbol = C.Symbol} (untouched x) }
 {}
 
-/// A step that draws is refused for the draw limit only where it gives nothing: a step of one value, of so many, and of
-/// so many that a rule takes.
+/// A step that draws is refused for the draw limit only if it has no result. This holds for one value, for `n` values,
+/// and for `n` values that a rule accepts.
 ///
 /// A law: the body is empty, and a caller cites the clauses.
 pub fn draws_tell_limits<A, C: Sponge, Cdc: Codec<C, A>>()
@@ -59,7 +59,7 @@ pub fn draws_tell_limits<A, C: Sponge, Cdc: Codec<C, A>>()
         TellsLimits {Symbol = C.Symbol} (drawing_rejecting Cdc.sampling rule limit n) }
 {}
 
-/// The same of a step that draws numbers of so many bits.
+/// A step that draws numbers of a given bit width is refused for the draw limit only if it has no result.
 ///
 /// A law: the body is empty, and a caller cites the clauses.
 pub fn bit_draws_tell_limits<C: CanSampleBits<usize>>()
@@ -69,7 +69,7 @@ pub fn bit_draws_tell_limits<C: CanSampleBits<usize>>()
         TellsLimits {Symbol = C.Symbol} (drawing_rejecting (C.bits_sampling width) rule limit n) }
 {}
 
-/// The same of a step that draws numbers of so many uniform bits.
+/// A step that draws numbers of uniform bits is refused for the draw limit only if it has no result.
 ///
 /// A law: the body is empty, and a caller cites the clauses.
 pub fn uniform_draws_tell_limits<F, C: CanSampleUniformBits<F>>()
@@ -79,7 +79,7 @@ pub fn uniform_draws_tell_limits<F, C: CanSampleUniformBits<F>>()
         (drawing_rejecting (C.uniform true width).draw rule limit n) }
 {}
 
-/// A check of a witness is refused for the draw limit only where it gives nothing.
+/// A check of a witness is refused for the draw limit only if it has no result.
 ///
 /// A law: the body is empty, and a caller cites the clause.
 pub fn work_tells_limits<C: GrindingChallenger>()

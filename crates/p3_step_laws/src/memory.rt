@@ -1,9 +1,8 @@
-//! Where a prover has played a step, a verifier that stands at the same state is refused its step when out of memory
-//! alone.
+//! If a prover has played a step, a verifier at the same state is refused its step only when out of memory.
 //!
-//! The laws of mirrors and agreements say what comes of the verifier's step where it is played, and that no fault of
-//! the pattern or of the proof refuses it. These say that no limit does either. Its laws on proof of work say so
-//! themselves.
+//! The laws of mirrors and agreements give the result of the verifier's step, and say that no fault of the pattern or
+//! of the proof refuses it. These laws say that no limit refuses it either. For proof of work those laws already say
+//! so.
 ghost use Rattle.std.specs.Prelude.{ℕ, List, true};
 ghost use Rattle.p3_fs_core.specs.Steps.{Step};
 ghost use Rattle.p3_driver_core.specs.Meanings.{marked, observed, observed_list, observed_bounded, drawn, drawn_list};
@@ -22,10 +21,10 @@ use p3_codecs::{AlphabetOf, Codec, Unit};
 use p3_fs_core::Kind;
 use p3_grinding::CanSampleUniformBits;
 
-/// Where a prover has sent one value, a list, or a list after its count, only being out of memory refuses the verifier that
-/// reads it.
+/// Only out of memory refuses a verifier's reading step after a prover has sent one value, a list, or a list after its
+/// count.
 ///
-/// A law: the body does nothing, and a caller cites the clauses. The most is below 2^64, as a `usize` is.
+/// A law: the body does nothing, and a caller cites the clauses. The maximum is below 2^64, as for a `usize`.
 pub fn only_memory_refuses_sent_values<A, U: Unit, C: CanObserve<U::Item>, Cdc: Codec<C, A>>()
     ensures value { EachValue OnlyMemoryRefusesToRead Cdc.observation Cdc.encoding }
     ensures list { EachList OnlyMemoryRefusesToRead Cdc.observation Cdc.encoding }
@@ -37,10 +36,10 @@ pub fn only_memory_refuses_sent_values<A, U: Unit, C: CanObserve<U::Item>, Cdc: 
     sent_counted_values_are_received::<A, U, C, Cdc>();
 }
 
-/// Where a prover has sent bytes, or bytes after their count, only being out of memory refuses the verifier that reads
-/// them.
+/// If a prover has sent bytes, or bytes after their count, the verifier's reading step is refused only when out of
+/// memory.
 ///
-/// A law: the body does nothing, and a caller cites the clauses. The most is below 2^64, as a `usize` is.
+/// A law: the body does nothing, and a caller cites the clauses. The maximum is below 2^64, as for a `usize`.
 pub fn only_memory_refuses_sent_bytes<U: Unit, C: CanObserve<U::Item>>()
     ensures fixed { EachBytes OnlyMemoryRefusesToRead ⟦<U as AlphabetOf<C>>⟧.alphabet }
     ensures counted { EachCountedBytes OnlyMemoryRefusesToRead ⟦<U as AlphabetOf<C>>⟧.alphabet }
@@ -49,9 +48,10 @@ pub fn only_memory_refuses_sent_bytes<U: Unit, C: CanObserve<U::Item>>()
     sent_counted_bytes_are_received::<U, C>();
 }
 
-/// Where a prover has sent a hint, or a hint after its count, only being out of memory refuses the verifier that reads it.
+/// If a prover has sent a hint, or a hint after its count, the verifier's reading step is refused only when out of
+/// memory.
 ///
-/// A law: the body does nothing, and a caller cites the clauses. The most is below 2^64, as a `usize` is.
+/// A law: the body does nothing, and a caller cites the clauses. The maximum is below 2^64, as for a `usize`.
 pub fn only_memory_refuses_hints<C: Sponge>()
     ensures fixed { EachHint {S = C.State} {Symbol = C.Symbol} OnlyMemoryRefusesToRead }
     ensures counted { EachCountedHint {S = C.State} {Symbol = C.Symbol} OnlyMemoryRefusesToRead }
@@ -60,14 +60,15 @@ pub fn only_memory_refuses_hints<C: Sponge>()
     counted_hint_is_received::<C>();
 }
 
-/// Where one side has opened or closed a container, only being out of memory refuses the other.
+/// If one side has opened or closed a container, the other side's step is refused only when out of memory.
 ///
 /// A law: the body is empty, and a caller cites the clause.
 pub fn only_memory_refuses_markers<C: Sponge>()
     ensures { (step : Step) → OnlyMemoryRefuses {S = C.State} {Symbol = C.Symbol} (marked step) }
 {}
 
-/// Where one side has observed one value, a list, or a list after its count, only being out of memory refuses the other.
+/// Only out of memory refuses the other side's step after one side has observed one value, a list, or a list after its
+/// count.
 ///
 /// A law: the body is empty, and a caller cites the clauses.
 pub fn only_memory_refuses_observed_values<A, U: Unit, C: CanObserve<U::Item>, Cdc: Codec<C, A>>()
@@ -78,15 +79,15 @@ pub fn only_memory_refuses_observed_values<A, U: Unit, C: CanObserve<U::Item>, C
         (observed_bounded step ⟦<U as AlphabetOf<C>>⟧.alphabet max Cdc.observation xs) }
 {}
 
-/// Where one side has observed a value as the challenger itself knows how, only being out of memory refuses the other.
+/// If one side has observed an opaque value, the other side's step is refused only when out of memory.
 ///
 /// A law: the body is empty, and a caller cites the clause.
 pub fn only_memory_refuses_opaque_values<T, C: CanObserve<T>>()
     ensures { (step : Step) (x : T) → OnlyMemoryRefuses (observed step C.observation x) }
 {}
 
-/// Where one side has drawn one value, so many values, or so many that a rule takes, only being out of memory refuses the
-/// other: the draws of both meet their limit, or neither's do.
+/// Only out of memory refuses the other side's step after one side has drawn one value, `n` values, or `n` values that
+/// a rule accepts. Both draws meet their limit, or neither does.
 ///
 /// A law: the body is empty, and a caller cites the clauses.
 pub fn only_memory_refuses_drawn_values<A, C: Sponge, Cdc: Codec<C, A>>()
@@ -98,7 +99,7 @@ pub fn only_memory_refuses_drawn_values<A, C: Sponge, Cdc: Codec<C, A>>()
         OnlyMemoryRefuses {Symbol = C.Symbol} (drawn_rejecting step Cdc.sampling rule limit n) }
 {}
 
-/// The same of numbers of so many bits.
+/// If one side has drawn numbers of a given bit width, the other side's step is refused only when out of memory.
 ///
 /// A law: the body is empty, and a caller cites the clause.
 pub fn only_memory_refuses_drawn_bits<C: CanSampleBits<usize>>()
@@ -106,7 +107,7 @@ pub fn only_memory_refuses_drawn_bits<C: CanSampleBits<usize>>()
         OnlyMemoryRefuses {Symbol = C.Symbol} (drawn_list step (C.bits_sampling width) n) }
 {}
 
-/// The same of numbers of so many uniform bits.
+/// If one side has drawn numbers of uniform bits, the other side's step is refused only when out of memory.
 ///
 /// A law: the body is empty, and a caller cites the clauses.
 pub fn only_memory_refuses_drawn_uniform_bits<F, C: CanSampleUniformBits<F>>()

@@ -1,9 +1,10 @@
-//! What a prover writes in a step, a verifier reads in its own: of `add_..` in `next_..`, of `pow` in `check_pow`.
+//! A verifier's step reads what the prover's step writes: `next_..` mirrors `add_..`, and `check_pow` mirrors `pow`.
 //!
 //! Each law is a function with an empty body: a caller calls it, and cites its clauses. `mirrors` says what is written
-//! and read. `follows` is what a caller wants of the two calls: where the prover's step was played, and the verifier
-//! stands at the state before it with the step's bytes next, its step reads the prover's value, leaves what follows,
-//! and ends at the prover's state; or it is refused for the sake of the challenger or of memory alone.
+//! and read. `follows` is what a caller needs of the two calls. Its premises are that the prover's step was played, and
+//! that the verifier is at the state before it with the step's bytes next. Then the verifier's step reads the prover's
+//! value, leaves the bytes after it, and ends at the prover's state. Otherwise the verifier's challenger or memory
+//! refuses the step.
 ghost use Rattle.p3_driver_core.specs.{Working.sent_work, Reads.received_work};
 ghost use Rattle.p3_step_laws.specs.{Completeness.{Completes, CompletesWork}, ReadBack.ReadsBack};
 ghost use Rattle.p3_step_laws.specs.Mirrored.{EachValue, EachList, EachCountedList, EachBytes, EachCountedBytes};
@@ -14,8 +15,8 @@ use p3_codecs::{AlphabetOf, Codec, Unit};
 use p3_fs_core::Kind;
 use p3_grinding::GrindingChallenger;
 
-/// What a prover writes of one value, a verifier reads: whatever follows it in the proof, the verifier's step reads
-/// that value, leaves what follows, and does to the challenger what the prover's step does. So it follows the prover's.
+/// A verifier reads the value that a prover writes, whatever follows it in the proof, and leaves the bytes after it.
+/// Both steps have the same effect on the challenger. So the verifier follows the prover.
 ///
 /// A law: the body is empty, and a caller cites the clauses.
 pub fn sent_value_is_received<A, C: Sponge, Cdc: Codec<C, A>>()
@@ -23,7 +24,7 @@ pub fn sent_value_is_received<A, C: Sponge, Cdc: Codec<C, A>>()
     ensures complete { EachValue Completes Cdc.observation Cdc.encoding }
 {}
 
-/// What a prover writes of a list of so many values, a verifier reads that asks for so many, and follows it.
+/// A verifier that reads `n` values reads a list of `n` values that a prover writes, and follows the prover.
 ///
 /// A law: the body is empty, and a caller cites the clauses.
 pub fn sent_values_are_received<A, C: Sponge, Cdc: Codec<C, A>>()
@@ -31,9 +32,9 @@ pub fn sent_values_are_received<A, C: Sponge, Cdc: Codec<C, A>>()
     ensures complete { EachList Completes Cdc.observation Cdc.encoding }
 {}
 
-/// What a prover writes of a list of at most so many values after their count, a verifier reads, and follows it.
+/// A verifier reads a bounded list that a prover writes after its count, and follows the prover.
 ///
-/// A law: the body is empty, and a caller cites the clauses. The most is below 2^64, as a `usize` is.
+/// A law: the body is empty, and a caller cites the clauses. The maximum is below 2^64, as for a `usize`.
 pub fn sent_counted_values_are_received<A, U: Unit, C: CanObserve<U::Item>, Cdc: Codec<C, A>>()
     ensures read_back { EachCountedList ReadsBack ⟦<U as AlphabetOf<C>>⟧.alphabet
         Cdc.observation Cdc.encoding }
@@ -41,7 +42,7 @@ pub fn sent_counted_values_are_received<A, U: Unit, C: CanObserve<U::Item>, Cdc:
         Cdc.observation Cdc.encoding }
 {}
 
-/// What a prover writes of bytes, a verifier reads that asks for so many, and follows it.
+/// A verifier that reads `n` bytes reads the `n` bytes that a prover writes, and follows the prover.
 ///
 /// A law: the body is empty, and a caller cites the clauses.
 pub fn sent_bytes_are_received<U: Unit, C: CanObserve<U::Item>>()
@@ -49,15 +50,15 @@ pub fn sent_bytes_are_received<U: Unit, C: CanObserve<U::Item>>()
     ensures complete { EachBytes Completes ⟦<U as AlphabetOf<C>>⟧.alphabet }
 {}
 
-/// What a prover writes of at most so many bytes after their count, a verifier reads, and follows it.
+/// A verifier reads the bounded bytes that a prover writes after their count, and follows the prover.
 ///
-/// A law: the body is empty, and a caller cites the clauses. The most is below 2^64, as a `usize` is.
+/// A law: the body is empty, and a caller cites the clauses. The maximum is below 2^64, as for a `usize`.
 pub fn sent_counted_bytes_are_received<U: Unit, C: CanObserve<U::Item>>()
     ensures read_back { EachCountedBytes ReadsBack ⟦<U as AlphabetOf<C>>⟧.alphabet }
     ensures complete { EachCountedBytes Completes ⟦<U as AlphabetOf<C>>⟧.alphabet }
 {}
 
-/// What a prover writes of a hint, a verifier reads that asks for so many bytes, and follows it.
+/// A verifier that reads a hint of `n` bytes reads the `n` bytes that a prover writes, and follows the prover.
 ///
 /// A law: the body is empty, and a caller cites the clauses.
 pub fn hint_is_received<C: Sponge>()
@@ -65,15 +66,15 @@ pub fn hint_is_received<C: Sponge>()
     ensures complete { EachHint {S = C.State} {Symbol = C.Symbol} Completes }
 {}
 
-/// What a prover writes of a hint of at most so many bytes after their count, a verifier reads, and follows it.
+/// A verifier reads the bounded hint that a prover writes after its count, and follows the prover.
 ///
-/// A law: the body is empty, and a caller cites the clauses. The most is below 2^64, as a `usize` is.
+/// A law: the body is empty, and a caller cites the clauses. The maximum is below 2^64, as for a `usize`.
 pub fn counted_hint_is_received<C: Sponge>()
     ensures read_back { EachCountedHint {S = C.State} {Symbol = C.Symbol} ReadsBack }
     ensures complete { EachCountedHint {S = C.State} {Symbol = C.Symbol} Completes }
 {}
 
-/// What a prover writes of a witness, a verifier reads, and follows it: the witness passes the verifier's check,
+/// A verifier reads the witness that a prover writes, and follows the prover. The witness passes the verifier's check,
 /// which is refused only when out of memory.
 ///
 /// A law: the body is empty, and a caller cites the clauses.

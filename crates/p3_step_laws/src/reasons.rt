@@ -1,5 +1,5 @@
-//! A step is refused for one reason: what an error says follows from the state before the step. Only being out of memory
-//! may come in its place. Here the steps that leave the proof as it is, and those that a prover writes.
+//! A step is refused for one reason: the state before the step determines what the error says. Only out of memory may
+//! come in its place. This file has the steps that leave the proof as it is, and those that a prover writes.
 ghost use Rattle.std.specs.Prelude.{ℕ, List, length, true};
 ghost use Rattle.p3_fs_core.specs.Steps.{Step};
 ghost use Rattle.p3_driver_core.specs.Meanings.{marked, observed, observed_list, observed_bounded, sent, sent_list};
@@ -19,8 +19,8 @@ pub fn markers_are_refused_for_one_reason<C: Sponge>()
     ensures { (step : Step) → HasOneReason {S = C.State} {Symbol = C.Symbol} (marked step) }
 {}
 
-/// A step is refused for one reason that observes values which do not stand in the proof, or that a prover sends. So it
-/// is where a prover may refuse a list first for being longer than its step lets it be.
+/// A step that a prover sends, or that observes values outside the proof, is refused for one reason. This holds even
+/// where a prover may first refuse a list as longer than its step allows.
 ///
 /// A law: the body is empty, and a caller cites the clauses.
 pub fn values_are_refused_for_one_reason<A, U: Unit, C: CanObserve<U::Item>, Cdc: Codec<C, A>>()
@@ -42,7 +42,7 @@ pub fn values_are_refused_for_one_reason<A, U: Unit, C: CanObserve<U::Item>, Cdc
         (sent_bounded step ⟦<U as AlphabetOf<C>>⟧.alphabet max Cdc.observation Cdc.encoding xs)) }
 {}
 
-/// A step of bytes is refused to a prover for one reason, also where they may be refused first for being too many.
+/// A step of bytes is refused to a prover for one reason, even where the bytes may first be refused as too many.
 ///
 /// A law: the body is empty, and a caller cites the clauses.
 pub fn bytes_are_refused_for_one_reason<U: Unit, C: CanObserve<U::Item>>()
@@ -55,7 +55,7 @@ pub fn bytes_are_refused_for_one_reason<U: Unit, C: CanObserve<U::Item>>()
         (sent_bytes_bounded kind label ⟦<U as AlphabetOf<C>>⟧.alphabet max bytes)) }
 {}
 
-/// The same of a hint.
+/// A step of a hint is refused to a prover for one reason, even where the bytes may first be refused as too many.
 ///
 /// A law: the body is empty, and a caller cites the clauses.
 pub fn hints_are_refused_for_one_reason<C: Sponge>()
@@ -67,14 +67,14 @@ pub fn hints_are_refused_for_one_reason<C: Sponge>()
         {S = C.State} {Symbol = C.Symbol} (length bytes) max (hinted_bounded label max bytes)) }
 {}
 
-/// A step is refused for one reason that observes a value as the challenger itself knows how.
+/// A step that observes an opaque value is refused for one reason.
 ///
 /// A law: the body is empty, and a caller cites the clause.
 pub fn opaque_values_are_refused_for_one_reason<T, C: CanObserve<T>>()
     ensures { (step : Step) (x : T) → HasOneReason (observed step C.observation x) }
 {}
 
-/// A step that draws is refused for one reason: a step of one value, of so many, and of so many that a rule takes.
+/// A step that draws one value, `n` values, or `n` values that a rule accepts is refused for one reason.
 ///
 /// A law: the body is empty, and a caller cites the clauses.
 pub fn draws_are_refused_for_one_reason<A, C: Sponge, Cdc: Codec<C, A>>()
@@ -85,7 +85,7 @@ pub fn draws_are_refused_for_one_reason<A, C: Sponge, Cdc: Codec<C, A>>()
         HasOneReason {Symbol = C.Symbol} (drawn_rejecting step Cdc.sampling rule limit n) }
 {}
 
-/// The same of a step that draws numbers of so many bits.
+/// A step that draws numbers of a given bit width is refused for one reason.
 ///
 /// A law: the body is empty, and a caller cites the clause.
 pub fn bit_draws_are_refused_for_one_reason<C: CanSampleBits<usize>>()
@@ -93,7 +93,7 @@ pub fn bit_draws_are_refused_for_one_reason<C: CanSampleBits<usize>>()
         HasOneReason {Symbol = C.Symbol} (drawn_list step (C.bits_sampling width) n) }
 {}
 
-/// The same of a step that draws numbers of so many uniform bits.
+/// A step that draws numbers of uniform bits is refused for one reason.
 ///
 /// A law: the body is empty, and a caller cites the clauses.
 pub fn uniform_draws_are_refused_for_one_reason<F, C: CanSampleUniformBits<F>>()

@@ -1,6 +1,6 @@
-//! A step of a verifier that reads, or to which its caller carries a list, is refused for one reason: what an error
-//! says follows from the state before the step, and from the bytes that are left. So is proof of work, on either side.
-//! Only being out of memory may come in its place.
+//! A verifier's step that reads, or that observes a caller's list, is refused for one reason. The state before the step
+//! and the bytes left determine what the error says. The same holds for proof of work, on either side. Only out of
+//! memory may come in its place.
 ghost use Rattle.std.specs.Prelude.{◌⊎◌, ℕ, List, length};
 ghost use Rattle.p3_fs_core.specs.Steps.{Step};
 ghost use Rattle.p3_driver_core.specs.{Meanings.{observed_list, observed_bounded}, Working.{work_of, RefusesToCheck}};
@@ -15,8 +15,8 @@ use p3_codecs::{AlphabetOf, Codec, Unit};
 use p3_fs_core::Kind;
 use p3_grinding::GrindingChallenger;
 
-/// A step that reads one value, a list of so many, or a list after its count is refused for one reason: it is not the
-/// next one; or the bytes that are left encode no such value; or its count is too long for the alphabet.
+/// A step that reads one value, a list of `n` values, or a list after its count is refused for one reason. Either it is
+/// not the next one, or the bytes left encode no such value, or its count is too long for the alphabet.
 ///
 /// A law: the body is empty, and a caller cites the clauses.
 pub fn values_are_unread_for_one_reason<A, U: Unit, C: CanObserve<U::Item>, Cdc: Codec<C, A>>()
@@ -28,7 +28,7 @@ pub fn values_are_unread_for_one_reason<A, U: Unit, C: CanObserve<U::Item>, Cdc:
         (received_bounded step ⟦<U as AlphabetOf<C>>⟧.alphabet max Cdc.observation Cdc.encoding)) }
 {}
 
-/// The same of a step that reads so many bytes, or bytes after their count.
+/// A step that reads `n` bytes, or bytes after their count, is refused for one reason.
 ///
 /// A law: the body is empty, and a caller cites the clauses.
 pub fn bytes_are_unread_for_one_reason<U: Unit, C: CanObserve<U::Item>>()
@@ -38,7 +38,7 @@ pub fn bytes_are_unread_for_one_reason<U: Unit, C: CanObserve<U::Item>>()
         (RefusesToRead (received_bytes_bounded label ⟦<U as AlphabetOf<C>>⟧.alphabet max)) }
 {}
 
-/// The same of a step that reads a hint.
+/// A step that reads a hint is refused for one reason.
 ///
 /// A law: the body is empty, and a caller cites the clauses.
 pub fn hints_are_unread_for_one_reason<C: Sponge>()
@@ -48,9 +48,8 @@ pub fn hints_are_unread_for_one_reason<C: Sponge>()
         (RefusesToRead {S = C.State} {Symbol = C.Symbol} (hint_received_bounded label max)) }
 {}
 
-/// A step that observes a list which the caller carries is refused for one reason, also where it may be refused for the
-/// list's length before anything is done: a list longer than its step lets it be, or of another length than the next
-/// step says.
+/// A step that observes a caller's list is refused for one reason, even where the list's length may be refused before
+/// anything is done. Such a list is longer than its step allows, or not as long as the next step says.
 ///
 /// A law: the body is empty, and a caller cites the clauses.
 pub fn carried_lists_are_refused_for_one_reason<
@@ -66,8 +65,8 @@ pub fn carried_lists_are_refused_for_one_reason<
         (RefusesRecordedOrStep (length xs) (observed_list step Cdc.observation xs)) }
 {}
 
-/// Proof of work is refused for one reason: to a prover that searches for a witness, to a verifier that reads one, and
-/// to one whose caller carries it.
+/// Proof of work is refused for one reason. This holds for a prover that searches for a witness, for a verifier that
+/// reads one, and for a verifier whose caller carries one.
 ///
 /// A law: the body is empty, and a caller cites the clauses.
 pub fn work_is_refused_for_one_reason<C: GrindingChallenger>()

@@ -1,4 +1,4 @@
--- What a step that reads, and is next, is refused for: the proof has another shape there, or the challenger or memory is
+-- The reasons to refuse a reading step that is next: the proof has another shape, or the challenger or memory is
 -- refused.
 use Rattle.std.{specs.Prelude.refl, proofs.Common.{inl, inr}}
 use Rattle.p3_challenger.specs.{Transcripts.IsNext, Driving.Driving, Reads.Reading, TranscriptLaws.next-not_refused}

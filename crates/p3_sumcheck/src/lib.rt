@@ -1,14 +1,15 @@
 //! Sumcheck over a table of values, played step by step on both drivers of a typed transcript.
 //!
 //! The claim is the sum of a table of `2^n` values. In each of `n` rounds the prover sends the sums
-//! of the table's two halves, a challenge is drawn, and both go on with less: the prover folds the
-//! table at the challenge, to half as many values, and the verifier sees that the two sums add to
-//! its claim, and takes as its next claim what the challenge makes of them. What it ends with is a
-//! claim on one value, that of the table folded at all challenges. Whether that is right is for the
-//! caller to see, who knows the table, or has it committed to.
+//! of the table's two halves, and a challenge is drawn. The prover folds the table at the
+//! challenge, to half as many values. The verifier checks that the two sums add up to its claim,
+//! and computes its next claim from them and the challenge. The last claim is on one value, that of
+//! the table folded at all challenges. The caller, who knows the table or a commitment to it, has
+//! to check that value.
 //!
-//! [`declare`] records the steps, [`prove`] and [`verify`] play them. A false claim survives only
-//! through a round whose challenge makes two different pairs agree: a clause of [`verify`].
+//! [`declare`] records the steps, and [`prove`] and [`verify`] play them. A false claim survives
+//! only through a round whose challenge gives two different pairs the same claim: a clause of
+//! [`verify`].
 #![tactic(auto)]
 
 mod error;

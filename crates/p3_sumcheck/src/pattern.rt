@@ -11,12 +11,12 @@ use p3_challenger::laws::refusals::listed_steps_are_next;
 use p3_field::ScalarField;
 use p3_symmetric::DigestHasher;
 
-/// Records the steps of so many rounds: in each a message of two scalars, `round`, and a scalar
+/// Records the steps of `rounds` rounds. Each has a message of two scalars, `round`, and a scalar
 /// challenge, `fold`.
 ///
-/// The errors are those of the recorder: it took the steps before the refused one, and takes no
-/// other. Where it has refused none yet, and some pattern begins with its steps and these, memory
-/// alone is refused.
+/// The errors are those of the recorder, which took the steps before the refused one, and takes no
+/// further step. If it has refused none yet, and some pattern begins with its steps and these, the
+/// only error is out of memory.
 pub fn declare<F: ScalarField, U, D: DigestHasher>(
     recorder: &mut PatternState<U>,
     rounds: usize,
@@ -40,9 +40,8 @@ pub fn declare<F: ScalarField, U, D: DigestHasher>(
     Ok(())
 }
 
-/// Where a pattern has the steps of [`declare`], a driver that stands before them, and of which no
-/// step was refused, has these rounds next: one that has just begun, where nothing was recorded
-/// before them.
+/// A pattern with the steps of [`declare`] has these rounds next at a driver that stands before
+/// them and has refused no step. If nothing was recorded before them, a new driver stands there.
 ///
 /// A law: the body does nothing, and a caller cites the clause.
 pub fn declared_rounds_are_next<F: ScalarField, D: DigestHasher>()

@@ -11,15 +11,16 @@ use p3_field::ScalarField;
 use p3_symmetric::DigestHasher;
 use std::alloc::Global;
 
-/// Sends the rounds of a table, and gives the point of their challenges and the table's value
+/// Sends the rounds of a table, and returns the point of their challenges and the table's value
 /// there.
 ///
-/// The table is folded where it lies, in one pass a round. The errors are those of the steps, and
-/// [`TranscriptError::OutOfMemory`] where there is no room for the point. After one the caller
-/// aborts the prover.
+/// The table is folded in place, in one pass for each round. The errors are those of the steps, and
+/// [`TranscriptError::OutOfMemory`] where memory for the point is refused. After an error the
+/// caller aborts the prover.
 ///
 /// Conditions: the table has `2^n` values, and the codec has at least
-/// [`MIN_CHALLENGE_SECURITY_BITS`](p3_challenger::fs::MIN_CHALLENGE_SECURITY_BITS) of security.
+/// [`MIN_CHALLENGE_SECURITY_BITS`](p3_challenger::fs::MIN_CHALLENGE_SECURITY_BITS) bits of
+/// security.
 pub fn prove<
     F: ScalarField,
     U: Unit,

@@ -1,25 +1,25 @@
-//! Tables of values: their sums, and how they are folded where they lie.
+//! Tables of values: their sums, and their folds in place.
 ghost use Rattle.std.specs.Prelude.{◌≡◌, ◌≤◌, ◌/◌, ◌↔◌, IsTrue, length, take};
 ghost use Rattle.p3_field.specs.Residues.{sum_of};
 ghost use Rattle.p3_sumcheck.specs.Tables as tables;
 
 use p3_field::PrimeField64;
 
-/// The value at `x` of the line that has `a` at 0 and `b` at 1.
+/// Returns the value at `x` of the line through `a` at 0 and `b` at 1.
 pub(crate) fn value_at<F: PrimeField64>(x: F, a: F, b: F) -> F
     ensures { result ≡ tables.value_at F.residues x a b }
 {
     a + x * (b - a)
 }
 
-/// The pair adds to the claim.
+/// Returns whether the pair adds up to the claim.
 pub(crate) fn adds<F: PrimeField64>(first: F, second: F, claim: F) -> bool
     ensures { IsTrue result ↔ sum_of F.residues first second ≡ claim }
 {
     first + second == claim
 }
 
-/// The sum of the values: the claim that a sumcheck of a table is of.
+/// Returns the sum of the values: the claim of a sumcheck of a table.
 pub fn sum<F: PrimeField64>(values: &[F]) -> F
     ensures { result ≡ tables.total F.residues values.now }
 {
@@ -30,7 +30,7 @@ pub fn sum<F: PrimeField64>(values: &[F]) -> F
     total
 }
 
-/// The sums of the two halves of a table, in one pass over both.
+/// Returns the sums of the two halves of a table, in one pass over both.
 pub(crate) fn sums_of_halves<F: PrimeField64>(table: &[F]) -> (F, F)
     ensures first { result.0 ≡ tables.total F.residues (tables.low_half table.now) }
     ensures second { result.1 ≡ tables.total F.residues (tables.high_half table.now) }
@@ -57,8 +57,8 @@ fn sums_of_two<F: PrimeField64>(first: &[F], second: &[F]) -> (F, F)
     (one, other)
 }
 
-/// Folds a table at `x` where it lies, in one pass, and gives the sums of the two halves of what is
-/// left.
+/// Folds a table at `x` in place, in one pass, and returns the sums of the two halves of the
+/// result.
 pub(crate) fn fold<F: PrimeField64>(table: &mut Vec<F>, x: F) -> (F, F)
     ensures folded { table.new.items ≡ tables.folded F.residues x table.old.items }
     ensures first { result.0 ≡ tables.total F.residues (tables.low_half table.new.items) }

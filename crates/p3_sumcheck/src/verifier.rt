@@ -22,15 +22,17 @@ use p3_field::ScalarField;
 use p3_symmetric::DigestHasher;
 use std::alloc::Global;
 
-/// Reads so many rounds, and gives the point of their challenges and the last claim, which is on
-/// the value of the prover's table there.
+/// Reads the rounds, and returns the point of their challenges and the last claim, on the value of
+/// the prover's table there.
 ///
-/// The error is [`SumcheckError::Round`] at the first pair that does not add to the claim, before
-/// that round's challenge is drawn; else [`SumcheckError::Transcript`] with that of the step, or
-/// where there is no room for the point. After one the caller aborts the verifier.
+/// The error is [`SumcheckError::Round`] at the first pair that does not add up to the claim,
+/// before that round's challenge is drawn. Else it is [`SumcheckError::Transcript`] with the error
+/// of the step, or with out of memory where memory for the point is refused. After an error the
+/// caller aborts the verifier.
 ///
 /// Condition: the codec has at least
-/// [`MIN_CHALLENGE_SECURITY_BITS`](p3_challenger::fs::MIN_CHALLENGE_SECURITY_BITS) of security.
+/// [`MIN_CHALLENGE_SECURITY_BITS`](p3_challenger::fs::MIN_CHALLENGE_SECURITY_BITS) bits of
+/// security.
 pub fn verify<
     F: ScalarField,
     U: Unit,

@@ -1,4 +1,4 @@
--- A digest under SHA-256 is one.
+-- A digest under SHA-256 is a digest of bytes.
 use Rattle.std.{specs.Prelude.{ℕ, zero, suc, ◌<◌, List, [], ◌∷◌, ◌++◌, slice_index}, proofs.Common.lit<}
 use Rattle.std.{proofs.Math.Nat.mod-lt, specs.Int.{to_be_bytes, w32}}
 use Rattle.sha2.{specs.Sha256.{sha256, digest_bytes, final_hash, initial_hash_256}, proofs.Facts256.length-sha256}

@@ -1,16 +1,16 @@
-//! A hash function of bytes that its type alone gives: what patterns and the identities of algebras are hashed with.
+//! Hash functions of bytes that are determined by a type. They hash patterns and the identities of algebras.
 ghost use Rattle.std.specs.Prelude.{◌≡◌, ℕ, List};
 ghost use Rattle.p3_symmetric.specs.Digests.{IsDigest};
 
-/// A hash function of bytes that is given by its type alone: it takes a byte string to 32 bytes, and equal
-/// byte strings to equal digests. Nothing more is known of it.
+/// A hash function of bytes that is determined by the type alone. It maps a byte string to 32 bytes, and equal byte
+/// strings to equal digests. Contracts know nothing more of it.
 ///
-/// Not in the Rust crate, which takes Keccak-256 in its place.
+/// Not in the Rust crate, which uses Keccak-256 instead.
 pub trait DigestHasher {
     // The digest of a byte string.
     ghost digest_of: { List ℕ → List ℕ };
 
-    /// The digest of a byte string. It takes no memory.
+    /// Returns the digest of a byte string. This call takes no memory.
     fn digest(message: &[u8]) -> [u8; 32]
         ensures { result ≡ digest_of message.now };
 

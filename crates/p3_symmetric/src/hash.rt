@@ -1,4 +1,4 @@
-//! A digest, of so many words of a hash function over a field.
+//! A digest of a fixed number of values, of a hash function over a field.
 ghost use Rattle.std.specs.Prelude.{◌≡◌, length};
 ghost use Rattle.p3_field_core.specs.Equality.{IsExact};
 
@@ -6,9 +6,10 @@ use std::alloc::AllocError;
 use std::convert::AsSlice;
 use std::marker::PhantomData;
 
-/// A digest: `N` values of `T`, of a hash function over the field `F`.
+/// A digest: `N` values of `T`, from a hash function over the field `F`.
 ///
-/// `p3-symmetric`'s `Hash`. It is made of an array, lends it, is copied and compared, and no more.
+/// Corresponds to `p3-symmetric`'s `Hash`, made from an array and borrowed as one. It can be copied and compared,
+/// and has no other methods.
 #[derive_where(Debug, PartialEq, Eq; T)]
 pub struct Hash<F, T, const N: usize> {
     value: [T; N],
@@ -39,14 +40,14 @@ impl<F, T: Copy, const N: usize> Copy for Hash<F, T, N> {}
 impl<F, T, const N: usize> Hash<F, T, N> {
     ghost use Rattle.p3_symmetric.specs.Digests.{values_of};
 
-    /// The values of the digest, in order.
+    /// Returns the values of the digest, in order.
     pub fn as_ref(&self) -> &[T; N]
         ensures { result.now ≡ values_of self.now }
     {
         &self.value
     }
 
-    /// Each digest has all its places, and digests of the same values are one.
+    /// Each digest has `N` values, and digests with the same values are equal.
     ///
     /// A law: the body is empty, and a caller cites the clauses.
     pub fn is_its_values()
@@ -56,7 +57,7 @@ impl<F, T, const N: usize> Hash<F, T, N> {
 }
 
 impl<F, T: PartialEq, const N: usize> Hash<F, T, N> {
-    /// Two digests compare equal exactly where their values are the same, if values compare so.
+    /// Two digests compare equal exactly where their values are the same, if values do.
     ///
     /// A law: the body is empty, and a caller cites the clause.
     pub fn compared_by_values()

@@ -1,7 +1,7 @@
 //! Hash functions of lists.
 ghost use Rattle.std.specs.Prelude.{◌≡◌, ◌<◌, ◌+◌, ◌*◌, ◌/◌, ◌%◌, ℕ, List, Some, length, slice_get, slice_range};
 
-/// What a hash function gives: an array of values that are copied.
+/// The output of a hash function: an array of values of a `Copy` type.
 ///
 /// Not in the Rust crate, where a digest is any type.
 pub trait HashOutput: Copy {
@@ -13,16 +13,16 @@ impl<T: Copy, const N: usize> HashOutput for [T; N] {
     ghost is_whole = { λ values. length values ≡ N };
 }
 
-/// A hash function: it takes a list of values to a digest, and equal lists to equal digests.
+/// A hash function: it maps a list of values to a digest, and equal lists to equal digests.
 ///
-/// `Out` is the digest, an array of values, and each digest has all its places. Nothing more is known of a
-/// hasher: not that two lists with one digest are hard to find, nor that different lists have different digests.
+/// `Out` is the digest, an array of values of a fixed length. Contracts know nothing more of a hasher. They do
+/// not say that two lists with one digest are hard to find, or that different lists have different digests.
 ///
-/// `p3-symmetric`'s `CryptographicHasher`, with `hash_slice`, and `hash_many` beside it. A hasher is
+/// Corresponds to `p3-symmetric`'s `CryptographicHasher`, with `hash_slice`, and `hash_many` in addition. A hasher is
 /// `Copy` here.
 pub trait CryptographicHasher<T, Out: HashOutput>: Copy {
-    /// How many messages [`hash_many`](CryptographicHasher::hash_many) hashes at once at best. It is
-    /// at least 1.
+    /// The number of messages, at least 1, that [`hash_many`](CryptographicHasher::hash_many) hashes best at
+    /// once.
     ///
     /// Not in the Rust crate.
     const LANES: usize;
@@ -35,15 +35,15 @@ pub trait CryptographicHasher<T, Out: HashOutput>: Copy {
     // Any value: in definitions it stands for a place that a list does not have.
     ghost filler: { T };
 
-    /// The digest of the values, taken as one list. It takes no memory.
+    /// Returns the digest of the values, taken as one list. This call takes no memory.
     fn hash_slice(&self, input: &[T]) -> Out
         ensures { result ≡ hash self.now input.now };
 
-    /// The digests of messages of one length, which stand one after another: digest `j` is that of
-    /// message `j`. It takes no memory.
+    /// Hashes messages of one length that stand one after another: digest `j` is that of message `j`. This call
+    /// takes no memory.
     ///
-    /// There are as many messages as digests, so the number of values is a multiple of the number of
-    /// digests; with no digests there are no values. The default body hashes one message after another.
+    /// There are as many messages as digests, so the number of values is a multiple of the number of digests.
+    /// Without digests there are no values. The default body hashes one message after another.
     ///
     /// Not in the Rust crate.
     fn hash_many(&self, messages: &[T], digests: &mut [Out])

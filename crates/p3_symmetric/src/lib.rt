@@ -1,6 +1,6 @@
-//! Hash functions and permutations over field elements and bytes, and the digests that they give.
+//! Hash functions and permutations over field elements and bytes, and their digests.
 //!
-//! What is called a law is a function without effect whose contract a caller cites. The Rust crate has none.
+//! A law is a function without effect whose contract a caller cites. The Rust crate has none.
 #![tactic(auto)]
 
 mod digest_hasher;

@@ -1,4 +1,4 @@
-//! The roots of a Merkle tree that is cut below its top.
+//! The roots of a Merkle tree whose top layers are cut off.
 ghost use Rattle.std.specs.Prelude.{◌≡◌, List};
 
 use std::convert::AsSlice;
@@ -8,7 +8,8 @@ use std::marker::{Model, PhantomData};
 ///
 /// Contracts see the list of the roots.
 ///
-/// `p3-symmetric`'s `MerkleCap`. It is made of a `Vec` and lends its roots; it is neither copied nor compared.
+/// Corresponds to `p3-symmetric`'s `MerkleCap`, made from a `Vec`. Its roots can be borrowed, and it can be neither
+/// copied nor compared.
 #[derive_where(Debug; D)]
 pub struct MerkleCap<F, D> {
     roots: Vec<D>,
@@ -23,7 +24,7 @@ impl<F, D> Model for MerkleCap<F, D> {
 }
 
 impl<F, D> MerkleCap<F, D> {
-    /// A cap of these roots in this order. It takes no memory.
+    /// Returns a cap of these roots in this order. This call takes no memory.
     pub fn new(roots: Vec<D>) -> Self
         ensures { result ≡ roots.items }
     {
@@ -33,7 +34,7 @@ impl<F, D> MerkleCap<F, D> {
         }
     }
 
-    /// The list of the roots in order.
+    /// Returns the list of the roots in order.
     pub fn roots(&self) -> &[D]
         ensures { result.now ≡ self.now }
     {

@@ -1,10 +1,10 @@
 //! Permutations of arrays.
 ghost use Rattle.std.specs.Prelude.{◌≡◌};
 
-/// A permutation of states, as a sponge uses it.
+/// A permutation of the states of a sponge.
 ///
-/// `p3-symmetric`'s `CryptographicPermutation`, in place alone. A permutation is `Copy` here. That it is one to one
-/// is not asked.
+/// Corresponds to `p3-symmetric`'s `CryptographicPermutation`, with the in-place method alone. A permutation is `Copy`
+/// here. The trait does not require that it is one to one.
 pub trait CryptographicPermutation<T>: Copy {
     // What each permutation makes of a state.
     ghost permutation: { Self → T → T };

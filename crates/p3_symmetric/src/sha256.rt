@@ -7,8 +7,8 @@ use crate::{CryptographicHasher, DigestHasher};
 use p3_sha256_lanes::four_digests;
 use sha2::{Digest, Sha256};
 
-/// SHA-256 (FIPS 180-4), of bytes to 32 bytes, by the kit's crate `sha2`. It is a hash function of lists of bytes,
-/// and one that its type alone gives.
+/// SHA-256 (FIPS 180-4), from bytes to 32 bytes, by the kit's crate `sha2`. It is a hash function of lists of
+/// bytes, and a [`DigestHasher`](crate::DigestHasher).
 #[derive(Clone, Copy, Debug, PartialEq, Eq)]
 pub struct Sha256Hasher;
 

@@ -1,4 +1,4 @@
-//! A permutation for tests, of no cryptographic worth: cells turn round, and a small number is added.
+//! A permutation for tests without any cryptographic strength: cells are rotated, and small numbers are added.
 ghost use Rattle.std.specs.Prelude.{◌≡◌, ◌<◌, ◌+◌, ◌%◌};
 ghost use Rattle.p3_field_core.specs.Residues.{plus};
 ghost use Rattle.p3_symmetric.specs.Turn.{turned};
@@ -6,8 +6,8 @@ ghost use Rattle.p3_symmetric.specs.Turn.{turned};
 use crate::CryptographicPermutation;
 use p3_field_core::{PrimeCharacteristicRing, PrimeField64};
 
-/// A permutation for tests, of no strength at all: the cells turn round by `K` places, and cell `i`
-/// gets `i + 1` added.
+/// A permutation for tests, without any strength: the cells are rotated by `K` places, and `i + 1` is added to cell
+/// `i`.
 ///
 /// Not in the Rust crate.
 #[derive(Clone, Copy, Debug, PartialEq, Eq)]
@@ -32,7 +32,8 @@ fn plus_number<F: PrimeCharacteristicRing>(x: F, n: u64) -> F
     x + F::from_u64(n)
 }
 
-/// The place that is `k` places on, round a ring of `width` places: where [`Turn`] takes what it puts at place `i`.
+/// Returns the place `k` places after `i` on a ring of `width` places, from which [`Turn`] takes the cell for place
+/// `i`.
 ///
 /// `i` is below `width`. Not in the Rust crate.
 pub fn turned_index(i: usize, k: usize, width: usize) -> usize

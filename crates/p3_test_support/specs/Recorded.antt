@@ -1,4 +1,4 @@
--- A challenger that keeps what it is fed.
+-- A challenger that records the symbols fed to it.
 use Rattle.std.proofs.{Common.{◌≡◌, List, [], ◌∷◌, ◌++◌, inl, refl, append_assoc}, lemmas.List.append-nil}
 use Rattle.p3_challenger_core.specs.{Sponge.IsNonEmpty, Observation.{Observation, IsObservation, LeavesInCalls}}
 use Rattle.p3_challenger_core.specs.ObservationLaws.{exact-observation, unchanged-front}

@@ -1,4 +1,4 @@
--- Draws from a list of what is still to be drawn.
+-- Draws from a list of remaining values.
 use Rattle.std.specs.Prelude.{◌≡◌, List, [], ◌∷◌, Option, Some, None, refl}
 use Rattle.p3_challenger_core.specs.{Sampling.IsSampling, SamplingLaws.one_step}
 
@@ -7,7 +7,7 @@ abbrev pub first_of : {T : Type 0} → List T → Option T
 first_of [] = None
 first_of (x ∷ xs) = Some x
 
--- what is left after it
+-- the values left after the next draw
 abbrev pub rest_of : {T : Type 0} → List T → List T
 rest_of [] = []
 rest_of (x ∷ xs) = xs

@@ -1,5 +1,5 @@
--- A hash function for tests, of no strength at all. It is laid out as the one of lengths that the
--- worked rows use: its digest counts on from a first byte.
+-- A hash function for tests, without any strength. Like that of the worked rows, its digest counts
+-- up from a first byte.
 use Rattle.std.specs.{Prelude.{ℕ, ◌%◌, List}, List.sum}
 use Rattle.p3_test_support.specs.LengthHasher.{digest_of_length}
 

@@ -1,5 +1,5 @@
-//! What tests share: hash functions and challengers of no strength at all, which give answers that are easy
-//! to write down by hand. The worked rows that need a field or a hash function are computed in its proofs.
+//! Support for tests: hash functions and challengers without any strength, whose results are easy to
+//! compute by hand. The proofs of this crate compute the worked rows that need a field or a hash function.
 #![tactic(auto)]
 
 mod read_back;

@@ -1,5 +1,5 @@
-//! Two challengers whose hash function, or permutation, has no strength, and what the clauses of `new` say of them:
-//! other values were observed, all ends alike, and so there is a collision.
+//! Two challengers whose hash function or permutation has no strength, as examples of the clauses of `new`. Different
+//! values were observed and everything ends alike, so there is a collision.
 ghost use Rattle.std.specs.Prelude.{[], ◌∷◌, ◌++◌, map};
 ghost use Rattle.p3_small_primes.specs.F257Residues.{residues};
 ghost use Rattle.p3_read_back.specs.Queries.{CollideAtSomePlace};
@@ -13,8 +13,8 @@ use p3_field::F257;
 use p3_hash_challenger::HashChallenger;
 use p3_symmetric::Turn;
 
-/// After 5 is observed, or 6, a challenger of [`LengthHasher`] hashes one string, and the same is pending: so the two
-/// strings collide.
+/// A challenger of [`LengthHasher`] hashes one string after it observes 5 or 6, and leaves the same pending. So the
+/// two strings collide.
 ///
 /// A law: a caller cites the clause.
 pub fn length_hasher_collides(initial_state: Vec<u8>)
@@ -24,8 +24,8 @@ pub fn length_hasher_collides(initial_state: Vec<u8>)
     let _ = HashChallenger::new(initial_state, LengthHasher);
 }
 
-/// After 1, 0, 7, 7 are observed, or 2, 0, 7, 7, a challenger of three cells under `Turn<2>` permutes two states, the
-/// same last, and nothing is pending: so the two states before collide.
+/// A challenger of three cells under `Turn<2>` permutes two states after it observes 1, 0, 7, 7 or 2, 0, 7, 7. The
+/// last state is the same, and nothing is pending. So the two first states collide.
 ///
 /// A law: a caller cites the clause.
 pub fn turn_collides()

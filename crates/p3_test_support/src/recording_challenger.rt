@@ -4,7 +4,7 @@ use p3_challenger_core::{CanObserve, ChallengerError, Sponge};
 use std::alloc::Global;
 use std::marker::Model;
 
-/// A challenger that keeps what it is fed.
+/// A challenger that records the symbols fed to it.
 #[derive(Drop)]
 pub struct RecordingChallenger<T> {
     symbols: Vec<T>,
@@ -19,7 +19,7 @@ impl<T> Model for RecordingChallenger<T> {
 }
 
 impl<T> RecordingChallenger<T> {
-    /// A challenger that was fed nothing yet.
+    /// Returns a challenger to which nothing was fed.
     pub fn new(alloc: Global) -> Self
         ensures { result ≡ [] }
     {
@@ -28,7 +28,7 @@ impl<T> RecordingChallenger<T> {
         }
     }
 
-    /// What it was fed, in order.
+    /// Returns the symbols fed to the challenger, in order.
     pub fn symbols(&self) -> &[T]
         ensures { result.now ≡ self.now }
     {

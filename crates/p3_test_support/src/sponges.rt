@@ -7,17 +7,17 @@ use p3_duplex::DuplexChallenger;
 use p3_field::{F257, PrimeCharacteristicRing};
 use p3_symmetric::Turn;
 
-/// A duplex challenger of three cells of the field of 257 elements, of which two are the rate.
+/// A duplex challenger with three cells of the field of 257 elements, of which two are the rate.
 pub type SmallSponge = DuplexChallenger<F257, Turn<1>, 3, 2>;
 
-/// A [`SmallSponge`] that observed nothing yet.
+/// Returns a [`SmallSponge`] that has observed nothing.
 pub fn small_sponge() -> SmallSponge
     ensures { result.sponge ≡ fresh residues 3 }
 {
     DuplexChallenger::new(Turn, 10)
 }
 
-/// The element of a number.
+/// Returns the element of a number.
 pub fn element(n: u64) -> F257
     ensures { result ≡ residues.of n }
 {

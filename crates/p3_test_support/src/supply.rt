@@ -3,7 +3,7 @@ ghost use Rattle.std.specs.Prelude.{◌≡◌};
 use p3_challenger_core::{CanObserve, CanSample, ChallengerError, Sponge};
 use std::marker::Model;
 
-/// A challenger that draws the bytes it was given, whatever it is fed. Its draw limit is their number.
+/// A challenger that draws given bytes, whatever is fed to it. Its draw limit is their number.
 #[derive(Drop)]
 pub struct Supply<'a> {
     left: &'a [u8],
@@ -18,14 +18,14 @@ impl<'a> Model for Supply<'a> {
 }
 
 impl<'a> Supply<'a> {
-    /// A challenger that draws these bytes, in order.
+    /// Returns a challenger that draws these bytes, in order.
     pub fn new(bytes: &'a [u8]) -> Self
         ensures { result ≡ bytes.now }
     {
         Supply { left: bytes }
     }
 
-    /// What is not drawn yet.
+    /// Returns the bytes not drawn yet.
     pub fn left(&self) -> &[u8]
         ensures { result.now ≡ self.now }
     {

@@ -5,11 +5,12 @@ use p3_hash_challenger::HashChallenger;
 use p3_symmetric::CryptographicHasher;
 use std::alloc::{AllocError, Global};
 
-/// Place `i` of the digest is the length of the message plus `i`, modulo 256.
+/// A hasher for tests: place `i` of the digest is the length of the message plus `i`, modulo 256.
 #[derive(Clone, Copy)]
 pub struct LengthHasher;
 
-/// Place `i` of the digest is the sum of the bytes of the message plus `i`, modulo 256.
+/// A hasher for tests: place `i` of the digest is the sum of the bytes of the message plus `i`, modulo
+/// 256.
 #[derive(Clone, Copy)]
 pub struct SumHasher;
 
@@ -78,7 +79,7 @@ fn digest_from(first: u8) -> [u8; 32]
     digest
 }
 
-/// A hasher of one digest.
+/// A hasher with one digest for all messages.
 #[derive(Clone, Copy)]
 pub struct FixedHasher {
     digest: [u8; 24],
@@ -105,7 +106,7 @@ impl CryptographicHasher<u8, [u8; 24]> for FixedHasher {
     }
 }
 
-/// A challenger that draws these bytes, the last one first.
+/// Returns a challenger that draws these bytes, the last one first.
 pub fn fixed_challenger(alloc: Global, digest: [u8; 24]) -> HashChallenger<u8, FixedHasher, 24>
     ensures pending { result.sponge.pending ≡ [] }
     ensures digest { result.hasher.digest ≡ digest }
@@ -113,7 +114,7 @@ pub fn fixed_challenger(alloc: Global, digest: [u8; 24]) -> HashChallenger<u8, F
     HashChallenger::new(Vec::new(alloc), FixedHasher { digest })
 }
 
-/// A challenger of [`LengthHasher`] with so many bytes pending. The one error is that memory was refused.
+/// Returns a challenger of [`LengthHasher`] with this many bytes pending. The one error is out of memory.
 pub fn length_challenger(
     alloc: Global,
     pending: usize,

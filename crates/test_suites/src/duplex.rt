@@ -6,7 +6,7 @@ use p3_challenger::fs::{FieldToFieldCodec, FieldUnit};
 use p3_field::F257;
 use p3_symmetric::{Hash, Sha256Hasher, Turn};
 
-/// Scripts over `DuplexChallenger` of three cells of `F257`, two of them the rate, which a `Turn` permutes. The field is
+/// Scripts over `DuplexChallenger` with three cells of `F257`, two of them the rate, permuted by a `Turn`. The field is
 /// its own extension, opaque values are digests of two elements, and there are steps of every kind.
 #[derive(Clone, Copy, Debug)]
 pub struct DuplexSuite;

@@ -8,8 +8,8 @@ use p3_field::{BabyBear, Coeffs};
 use p3_symmetric::Sha256Hasher;
 use std::marker::PhantomData;
 
-/// Scripts over `HashChallenger` of bytes with the hash function `H`, whose scalars are of `BabyBear` and sent as bytes.
-/// The extension has degree 4, opaque values are arrays of 32 bytes, and there are the plain steps alone. Patterns and
+/// Scripts over `HashChallenger` of bytes with the hash function `H`, with scalars of `BabyBear` sent as bytes. The
+/// extension has degree 4, opaque values are arrays of 32 bytes, and there are only plain steps. Patterns and
 /// identities are hashed by `H` too.
 pub struct HashSuite<H = Sha256Hasher> {
     hasher: PhantomData<H>,

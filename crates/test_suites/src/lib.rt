@@ -1,5 +1,4 @@
-//! A suite over each challenger, for callers and tests; and suites over the hash functions and permutations that users
-//! take.
+//! A suite over each challenger, for callers and tests, and suites over the hash functions and permutations of users.
 #![tactic(auto)]
 
 mod byte_hasher;

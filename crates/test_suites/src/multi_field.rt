@@ -6,8 +6,8 @@ use p3_challenger::fs::{FieldToFieldCodec, FieldUnit};
 use p3_field::{BabyBear, F257};
 use p3_symmetric::{Hash, Sha256Hasher, Turn};
 
-/// Scripts over `MultiField32Challenger` of `F257` in three cells of `BabyBear`, two of them the rate, which a `Turn`
-/// permutes. The field is its own extension, opaque values are digests of two words, and there are no uniform bits.
+/// Scripts over `MultiField32Challenger` of `F257` in three cells of `BabyBear`, two of them the rate, permuted by a
+/// `Turn`. The field is its own extension, opaque values are digests of two words, and there are no uniform bits.
 #[derive(Clone, Copy, Debug)]
 pub struct MultiFieldSuite;
 

@@ -8,7 +8,7 @@ use p3_keccak::Keccak256Hasher;
 use p3_poseidon2::{Poseidon2BabyBear16, Poseidon2Goldilocks8};
 use p3_symmetric::Hash;
 
-/// Scripts over `DuplexChallenger` of sixteen cells of `BabyBear`, eight of them the rate, which Poseidon2 permutes. The
+/// Scripts over `DuplexChallenger` with sixteen cells of `BabyBear`, eight of them the rate, permuted by Poseidon2. The
 /// extension has degree 4, opaque values are digests of eight elements, and there are steps of every kind. Patterns and
 /// identities are hashed by Keccak-256, as in the Rust crate.
 #[derive(Clone, Copy, Debug)]
@@ -44,7 +44,7 @@ impl Suite for BabyBearPoseidon2Suite {
         (each_same (values_of digest) (values_of copy) told.whole) };
 }
 
-/// Scripts over `DuplexChallenger` of eight cells of `Goldilocks`, four of them the rate, which Poseidon2 permutes. The
+/// Scripts over `DuplexChallenger` with eight cells of `Goldilocks`, four of them the rate, permuted by Poseidon2. The
 /// field is its own extension, opaque values are digests of four elements, and there are steps of every kind. Patterns
 /// and identities are hashed by Keccak-256, as in the Rust crate.
 #[derive(Clone, Copy, Debug)]
@@ -80,9 +80,9 @@ impl Suite for GoldilocksPoseidon2Suite {
         (each_same (values_of digest) (values_of copy) told.whole) };
 }
 
-/// Scripts over `MultiField32Challenger` of `BabyBear` in eight cells of `Goldilocks`, four of them the rate, which
-/// Poseidon2 permutes. The extension has degree 4, opaque values are digests of four cells, and there are no uniform
-/// bits. Patterns and identities are hashed by Keccak-256, as in the Rust crate.
+/// Scripts over `MultiField32Challenger` of `BabyBear` in eight cells of `Goldilocks`, four of them the rate, permuted
+/// by Poseidon2. The extension has degree 4, opaque values are digests of four cells, and there are no uniform bits.
+/// Patterns and identities are hashed by Keccak-256, as in the Rust crate.
 #[derive(Clone, Copy, Debug)]
 pub struct MultiFieldPoseidon2Suite;
 

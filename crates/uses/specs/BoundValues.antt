@@ -7,12 +7,12 @@ use Rattle.p3_challenger.specs.ChallengerError.TheVariants.{OutOfMemory, TooLong
 abbrev pub of_bytes : {Item Symbol : Type 0} → (List ℕ → List Item) → (Item → List Symbol) → List ℕ → List Symbol
 of_bytes items symbols bytes = flat_map symbols (items bytes)
 
--- the symbols of the three
+-- the symbols of a value, a byte string and a second value
 abbrev pub of_three : {T Symbol : Type 0} → (T → List Symbol) → (List ℕ → List Symbol) → T → List ℕ → T → List Symbol
 of_three of_value of_message first message second = of_value first ++ (of_message message ++ of_value second)
 
--- What an absorption that answers this error leaves: where memory is refused, a front of the symbols was fed;
--- where the byte string is too long, those of the first value alone were.
+-- What an absorption with this error leaves. If memory is refused, a prefix of the symbols was fed; if the
+-- byte string is too long, only those of the first value were.
 abbrev pub RefusesInTurn : {S Symbol : Type 0} →
     (S → List Symbol → S) → Type 0 → List Symbol → List Symbol → ChallengerError → S → S → Type 0
 RefusesInTurn fed IsTooLong of_first symbols OutOfMemory s t = LeavesFed fed s symbols t

@@ -10,14 +10,14 @@ use Rattle.p3_challenger.specs.Kind.TheVariants as kind
 use Rattle.p3_challenger.specs.Step as script
 use Rattle.p3_challenger.specs.Step.TheVariants as step
 
--- Poseidon2 of sixteen cells, and a challenger over it
+-- Poseidon2 with sixteen cells, and a challenger over it
 abbrev pub Permutation : Type 0
 Permutation = Poseidon2 BabyBear 16 7 13
 
 abbrev pub ScriptChallenger : Type 0
 ScriptChallenger = DuplexState BabyBear Permutation
 
--- one that observed nothing, with a limit of 1000 candidates for uniform bits
+-- a challenger that has observed nothing, with a limit of 1000 candidates for uniform bits
 abbrev pub fresh_challenger : Permutation → ScriptChallenger
 fresh_challenger permutation = record { sponge = fresh residues 16; permutation = permutation; draw_limit = 1000 }
 
@@ -27,7 +27,7 @@ ScriptStep =
     script.Step Demo BabyBear (Coeffs BabyBear 4) (FieldUnit BabyBear) (Hash BabyBear BabyBear 8) ScriptChallenger
     (FieldToFieldCodec BabyBear) AcceptAll Sha256Hasher Both BabyBear ScriptChallenger BabyBear
 
--- a label, which says this
+-- a label with this text
 pub record Labelled (text : List ℕ) : Type 0 where
   pub label : Bor (List ℕ)
   pub says : label.now ≡ text

@@ -3,12 +3,12 @@ use Rattle.std.specs.Prelude.{ℕ, zero, suc, ◌+◌, ◌*◌, ◌%◌, ◌^◌
 use Rattle.std.proofs.{Common.{refl, arith}, Math.Nat.mod-lt}
 use Rattle.p3_challenger.specs.Digests.{IsDigest}
 
--- the value at 31 of the polynomial of these coefficients, the first one the highest
+-- the value at 31 of the polynomial with these coefficients, highest first
 abbrev pub polynomial : List ℕ → ℕ
 polynomial [] = 0
 polynomial (x ∷ xs) = x * 31 ^ length xs + polynomial xs
 
--- modulo 256 it stands in each place of the digest
+-- each place of the digest has that value modulo 256
 abbrev pub polynomial_digest : List ℕ → List ℕ
 polynomial_digest message = replicate 32 (polynomial message % 256)
 
@@ -17,7 +17,7 @@ places-bytes zero x i below = omega arith
 places-bytes (suc n) x zero below = below
 places-bytes (suc n) x (suc i) below = places-bytes n x i below
 
--- so each digest is one
+-- each digest of the polynomial is a digest of bytes
 pub polynomial-is_digest : (message : List ℕ) → IsDigest (polynomial_digest message)
 polynomial-is_digest message =
     record {

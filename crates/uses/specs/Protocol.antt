@@ -1,4 +1,4 @@
--- What a run of the small protocol says.
+-- The contract of a run of the small protocol.
 use Rattle.std.specs.Prelude.{◌≡◌, ◌==◌, ◌-◌, ℕ, List, [], ◌∷◌, ◌++◌, Bool, true, false, Option, Some, None, not, codes}
 use Rattle.std.specs.Prelude.{Result, MatchResult}
 use Rattle.p3_challenger.specs.{Encoding.Encoding, Kind.{Kind, TheVariants.{Challenge, Hint, Message}}, Length.Length}
@@ -8,7 +8,7 @@ use Rattle.p3_challenger.specs.{Transcripts.bytes_step, TranscriptError.{Transcr
 use Rattle.p3_field.specs.{BabyBearResidues.{BabyBear, residues}, Residues.{sum_of, product_of, power_of}}
 use Rattle.uses.specs.declared.protocol.Claim.{Claim}
 
--- the step of an element of the field, or of a list of some, where the field's identity has this digest
+-- the step of a field element, or of a list of them, where the field's identity has this digest
 abbrev pub element_step : List ℕ → Kind → List ℕ → Length → Step
 element_step digest kind label length =
     algebra_step kind label (algebra_of residues.order 1 digest (codes "BabyBear")) length
@@ -23,26 +23,26 @@ steps_of_line digest =
     ∷ bytes_step Hint (codes "quotient") (Fixed 4)
     ∷ []
 
--- the quotient is that of the line's value at the place
+-- the quotient is the line's value at the place, divided by the divisor
 abbrev pub IsQuotient : Claim → Type 0
 IsQuotient claim =
     product_of residues claim.quotient claim.divisor
     ≡ sum_of residues (product_of residues claim.slope claim.place) claim.offset
 
--- what is answered for a claim: it, where its quotient is right, and else none
+-- the result for a claim: the claim if its quotient is right, and else none
 abbrev pub IsAnswer : Option Claim → Claim → Type 0
 IsAnswer (Some found) claim = (found ≡ claim) × IsQuotient claim
 IsAnswer None claim = IsQuotient claim → ⊥
 
--- an element that may be a divisor: any but 0
+-- an element that can be a divisor: any except 0
 abbrev pub may_divide : BabyBear → Bool
 may_divide x = not (residues.number x == 0)
 
--- the divisor is the first element that is drawn and may be one, of at most 100
+-- the divisor is the first drawn element that can be one, within 100 draws
 abbrev pub IsDivisor : {S : Type 0} → Sampling S BabyBear → S → BabyBear → Type 0
 IsDivisor d s x = ((taken d (λ y kept. may_divide y) 100 [] s).gives ≡ Some x) × (may_divide x ≡ true)
 
--- the state of a challenger that observed the slope, and then the offset
+-- the state of a challenger that has observed the slope and the offset
 abbrev pub after_line : {S Symbol : Type 0} → Observation S Symbol BabyBear → S → Claim → S
 after_line o s claim = o.observed (o.observed s claim.slope) claim.offset
 
@@ -50,24 +50,24 @@ after_line o s claim = o.observed (o.observed s claim.slope) claim.offset
 abbrev pub bytes_of : Encoding BabyBear → Claim → List ℕ
 bytes_of e claim = e.wire claim.slope ++ (e.wire claim.offset ++ e.wire claim.quotient)
 
--- The place is drawn of a challenger that observed the line. The divisor is drawn of what is left then. The bytes are
--- those of the claim, and no others.
+-- The place is drawn after the challenger has observed the line, and the divisor after the place. The bytes are
+-- exactly those of the claim.
 pub record IsRun {S Symbol : Type 0} (o : Observation S Symbol BabyBear) (places divisors : Sampling S BabyBear)
     (e : Encoding BabyBear) (s : S) (claim : Claim) (bytes : List ℕ) : Type 0 where
   pub place : places.sampled (after_line o s claim) ≡ Some claim.place
   pub divisor : IsDivisor divisors (places.after (after_line o s claim)) claim.divisor
   pub encoded : bytes ≡ bytes_of e claim
 
--- the answer of a verifier is that of a run
+-- the result of a verifier is that of a run
 abbrev pub AnswersRun : (Claim → Type 0) → Option Claim → Type 0
 AnswersRun IsRunOf found = (claim : Claim) × IsAnswer found claim × IsRunOf claim
 
--- each run is answered as the run of its claim, or memory is out
+-- the verifier returns the result for the claim of each run, or is out of memory
 abbrev pub AcceptsRuns : (Claim → Type 0) → Result (Option Claim) TranscriptError → Type 0
 AcceptsRuns IsRunOf result =
     (claim : Claim) → IsRunOf claim → MatchResult result (λ found. IsAnswer found claim) (λ e. e ≡ OutOfMemory)
 
--- what a prover gives: the line's value at the place, times a power of the divisor that divides by it
+-- the prover's quotient: the line's value at the place, times the power of the divisor that is its inverse
 abbrev pub quotient_of : Claim → BabyBear
 quotient_of claim =
     product_of residues (sum_of residues (product_of residues claim.slope claim.place) claim.offset)
@@ -81,8 +81,8 @@ pub record IsSent {S Symbol : Type 0} (o : Observation S Symbol BabyBear) (place
   pub run : IsRun o places divisors e s claim bytes
   pub quotient : claim.quotient ≡ quotient_of claim
 
--- A verifier stands before the protocol: its steps are the pattern, and none was played. The bytes that it has left
--- begin with those of a run, and these follow.
+-- A verifier is at the start of the protocol: its steps are the pattern, and none was played. The bytes that it has
+-- left begin with those of a run, and these follow.
 pub record IsAhead {S Symbol : Type 0} (o : Observation S Symbol BabyBear) (places divisors : Sampling S BabyBear)
     (e : Encoding BabyBear) (digest : List ℕ) (v : Driving S) (claim : Claim) (rest : List ℕ) : Type 0 where
   pub steps : v.transcript.playing.pattern.steps ≡ steps_of_line digest
@@ -91,7 +91,7 @@ pub record IsAhead {S Symbol : Type 0} (o : Observation S Symbol BabyBear) (plac
   pub run : IsRun o places divisors e v.transcript.challenger claim (bytes_of e claim)
   pub unread : v.bytes ≡ bytes_of e claim ++ rest
 
--- it has played all of the protocol, and has these bytes left
+-- the verifier has played the whole protocol, and has these bytes left
 pub record IsPast {S : Type 0} (before : Driving S) (rest : List ℕ) (after : Driving S) : Type 0 where
   pub pattern : after.transcript.playing.pattern ≡ before.transcript.playing.pattern
   pub position : after.transcript.playing.position ≡ 5

@@ -1,4 +1,4 @@
--- Two sumchecks in one transcript, each after the sum that it is of.
+-- Two sumchecks in one transcript, each after its sum.
 use Rattle.std.specs.Prelude.{◌≡◌, ◌<◌, ℕ, List, [], ◌∷◌, ◌++◌, false, codes}
 use Rattle.p3_challenger.specs.{Steps.{NamedAlgebra, algebra_step, Step}, Driving.Driving, Kind.TheVariants.Message}
 use Rattle.p3_challenger.specs.{Length.TheVariants.Scalar, Meanings.sent, PatternSteps.PatternSteps, Playing.IsPlayed}
@@ -9,7 +9,7 @@ use Rattle.p3_sumcheck.specs.{declared.{error.SumcheckError.SumcheckError, round
 use Rattle.uses.specs.declared.two_sums.Reduced.{Reduced}
 use Rattle.p3_sumcheck.specs.declared.error.SumcheckError.TheVariants as fault
 
--- the steps of a sum, and of the rounds after it; and those of two
+-- the steps of a sum and its rounds, and those of two sums
 abbrev pub sum_step : NamedAlgebra → Step
 sum_step field = algebra_step Message (codes "sum") field Scalar
 
@@ -19,7 +19,7 @@ steps_of_sum field n = sum_step field ∷ steps_of_rounds (round_steps field) n
 abbrev pub steps_of_two : NamedAlgebra → ℕ → List Step
 steps_of_two field n = steps_of_sum field n ++ steps_of_sum field n
 
--- a prover that has begun
+-- a prover before its first step
 abbrev pub begun : {S : Type 0} → S → PatternSteps → Driving S
 begun challenger pattern =
     record {
@@ -30,7 +30,7 @@ begun challenger pattern =
       bytes = [];
     }
 
--- a driver that stands there, with these bytes left
+-- a driver at this point, with these bytes left
 abbrev pub with_bytes : {S : Type 0} → Driving S → List ℕ → Driving S
 with_bytes driver bytes = record { transcript = driver.transcript; bytes = bytes }
 
@@ -38,7 +38,7 @@ module _ {S Symbol F : Type 0} (m : Sumcheck S Symbol F) where
   abbrev pub sent_sum : F → Meaning S Symbol F
   sent_sum x = sent (sum_step m.field) m.observation m.encoding x
 
-  -- the sum of a table is sent, and then its true rounds at a point, where its value is this one
+  -- the sum of a table is sent, followed by its true rounds at a point, where the table's value is this one
   pub record SendsSum (table : List F) (before after : Driving S) : Type 0 where
     pub point : List F
     pub value : F
@@ -46,40 +46,40 @@ module _ {S Symbol F : Type 0} (m : Sumcheck S Symbol F) where
     pub sum : Writes (sent_sum (total m.residues table)) before (total m.residues table) here
     pub rounds : Proves m table point value here after
 
-  -- the same of two tables
+  -- the sums and the rounds of two tables are sent
   pub record SendsTwo (first second : List F) (before after : Driving S) : Type 0 where
     pub here : Driving S
     pub one : SendsSum first before here
     pub other : SendsSum second here after
 
-  -- these bytes are a proof of both
+  -- these bytes are a proof of both sums
   pub record ProvesTwo (first second : List F) (challenger : S) (pattern : PatternSteps) (proof : List ℕ) : Type 0 where
     pub end : Driving S
     pub sends : SendsTwo first second (begun challenger pattern) end
     pub played : IsPlayed end.transcript.playing
     pub written : proof ≡ end.bytes
 
-  -- a verifier is left with the sum of the table, and with the value at the point that it was sent at
+  -- a verifier is left with the sum of the table, and with its value at the point of the rounds
   pub record IsReduced (table : List F) {before after : Driving S} (it : SendsSum table before after) (read : Reduced F) :
       Type 0 where
     pub sum : read.sum ≡ total m.residues table
     pub point : read.point.items ≡ it.point
     pub value : read.value ≡ it.value
 
-  -- the same of two
+  -- a verifier is left with the sums of two tables, and with their values at the points of the rounds
   pub record AreReduced (first second : List F) {before after : Driving S} (it : SendsTwo first second before after)
       (one other : Reduced F) : Type 0 where
     pub one_is : IsReduced first it.one one
     pub other_is : IsReduced second it.other other
 
-  -- ---- the verifier's side, of any bytes
+  -- ---- the verifier's side, for any bytes
 
   -- this value's bytes are next, and it is observed
   pub record ReadsValue (x : F) (before after : Driving S) : Type 0 where
     pub plays : PlaysStep (sent_sum x) before.transcript x after.transcript
     pub bytes : before.bytes ≡ m.encoding.wire x ++ after.bytes
 
-  -- a sum is read, and rounds that bring it to the value that is left
+  -- a sum is read, and rounds that lead from it to the value left
   pub record ReadsSum (n : ℕ) (read : Reduced F) (before after : Driving S) : Type 0 where
     pub rounds : List (Round F)
     pub here : Driving S
@@ -87,21 +87,21 @@ module _ {S Symbol F : Type 0} (m : Sumcheck S Symbol F) where
     pub accepts : Accepts m read.sum n here rounds read.value after
     pub point : read.point.items ≡ challenges_of rounds
 
-  -- the same of two sums
+  -- two sums are read, each with its rounds
   pub record ReadsTwo (n : ℕ) (one other : Reduced F) (before after : Driving S) : Type 0 where
     pub here : Driving S
     pub first : ReadsSum n one before here
     pub second : ReadsSum n other here after
 
-  -- these bytes are two sums with their rounds, and nothing is left of them
+  -- these bytes are two sums with their rounds, and nothing more
   pub record AcceptsTwo (n : ℕ) (one other : Reduced F) (challenger : S) (pattern : PatternSteps) (proof : List ℕ) :
       Type 0 where
     pub end : Driving S
     pub reads : ReadsTwo n one other (with_bytes (begun challenger pattern) proof) end
     pub ends : EndsReading end
 
--- Sumchecks of so many rounds whose steps are next are refused so: a round's pair does not add to its claim, the proof
--- has another shape, or the challenger or memory is refused.
+-- Sumchecks of n rounds whose steps are next are refused for one of these reasons. A round's pair does not add up
+-- to its claim, the proof has another shape, or the challenger or memory is refused.
 abbrev pub IsSumcheckFault : ℕ → SumcheckError → Type 0
 IsSumcheckFault n (fault.Round i) = i < n
 IsSumcheckFault n (fault.Transcript e) = IsNoPatternFault e

@@ -1,5 +1,5 @@
-//! A value, a byte string and a second value are absorbed one after another. Whatever the challenger, the codec and
-//! the alphabet are: the call says which symbols it fed, and those symbols bind the three, as a law.
+//! A value, a byte string and a second value, absorbed in one call. For any challenger, codec and alphabet the contract
+//! says which symbols were fed, and a law says that those symbols determine the three.
 ghost use Rattle.std.specs.Prelude.{◌≡◌, ℕ, List, ◌++◌, length, OnOk, IfErr};
 ghost use Rattle.p3_challenger.specs.{Sponge.IsFed, Reading.{AreBytes, IsPrefixCodeOn}};
 ghost use Rattle.uses.specs.BoundValues.{of_three, of_bytes, RefusesInTurn};
@@ -10,9 +10,9 @@ use p3_challenger::{CanObserve, ChallengerError};
 
 /// Absorbs a value, a byte string and a second value.
 ///
-/// The errors are [`ChallengerError::TooLong`], where the alphabet has no symbols for a byte string so long: then the
-/// first value is absorbed and nothing more; and [`ChallengerError::OutOfMemory`], after which a front of the symbols
-/// of the three was fed.
+/// The errors are [`ChallengerError::TooLong`], where the byte string is too long for the alphabet, and
+/// [`ChallengerError::OutOfMemory`]. After the former only the first value is absorbed. After the latter a prefix of
+/// the symbols of the three was fed.
 ///
 /// Condition: `U` is an alphabet.
 pub fn absorb_values<T, D: Codec<C, T>, U: Unit, C: CanObserve<U::Item>>(
@@ -42,9 +42,9 @@ pub fn absorb_values<T, D: Codec<C, T>, U: Unit, C: CanObserve<U::Item>>(
     D::observe(challenger, second)
 }
 
-/// The symbols that [`absorb_values`] feeds bind what it absorbs: where two such lists of symbols are equal, with
-/// anything after them, and the byte strings have one length, then the values and the byte strings are equal, and
-/// so is what stands after.
+/// The symbols that [`absorb_values`] feeds bind what it absorbs. Take two such lists of symbols that are equal, with
+/// anything after them, where the byte strings have one length. Then the values and the byte strings are equal, and
+/// so is what follows.
 ///
 /// A law: a caller cites the clause. Conditions: the challenger feeds each value of the codec, and each item of the
 /// alphabet, as a prefix code.

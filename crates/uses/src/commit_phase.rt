@@ -1,9 +1,9 @@
-//! The commit phase of FRI, and its queries, on any challenger: what a prover of a polynomial commitment does with the
-//! challenger itself, where the proof is a struct of its own and no typed transcript is played.
+//! The commit phase of FRI, and its queries, on any challenger. A prover of a polynomial commitment calls the
+//! challenger itself here: its proof is a struct, and no typed transcript is played.
 //!
-//! Merkle caps are observed one after another, and after each a challenge in an extension is drawn. Then comes a proof
-//! of work, and then indices are drawn as uniform bits, each once. [`prove`] and [`verify`] differ in one call, and
-//! have one contract: that what they answer is drawn of what was observed, in this order.
+//! Merkle caps are observed one after another, and a challenge in an extension is drawn after each. A proof of work
+//! follows, and then distinct indices are drawn as uniform bits. [`prove`] and [`verify`] differ in one call, and have
+//! one contract: their results are drawn from what was observed, in this order.
 ghost use Rattle.std.specs.Prelude.{◌≡◌, ◌≤◌, true, IfOk, IfSome, OnOk};
 ghost use Rattle.p3_challenger.specs.{Checks.{all_zero, check_of}, Sampling.in_row};
 ghost use Rattle.uses.specs.CommitPhase.{AreDrawnInTurn, AreQueries, IsCommitPhase, kept_with};
@@ -15,34 +15,34 @@ use p3_challenger::{
 use p3_field::{BasedVectorSpace, PrimeField64};
 use std::alloc::Global;
 
-/// How much is asked of a prover.
+/// The parameters of a commit phase.
 #[derive(Clone, Copy)]
 pub struct Demands {
-    /// How many bits its proof of work has.
+    /// The number of bits of the proof of work.
     pub work_bits: usize,
-    /// How many bits an index has.
+    /// The number of bits of an index.
     pub index_bits: usize,
-    /// How many indices are drawn.
+    /// The number of indices to draw.
     pub queries: usize,
 }
 
-/// What is drawn of a commit phase.
+/// The values drawn in a commit phase.
 #[derive(Debug, Drop)]
 pub struct Challenges<EF> {
-    /// A challenge after each cap, by which the prover folds.
+    /// The challenge after each cap, at which the prover folds.
     pub folds: Vec<EF>,
-    /// Where the verifier looks.
+    /// The indices that the verifier queries.
     pub queries: Vec<usize>,
 }
 
-/// Observes the caps of a prover, and searches for its witness. A cap is what is observed of each round: a
-/// `&MerkleCap`, for most. How many roots a cap has is not absorbed with it, so let the protocol fix that, or observe
-/// it first: caps of different lengths are no prefix code.
+/// Observes the caps of a prover, and searches for its witness. A cap is the value observed in a round, usually a
+/// `&MerkleCap`. The number of roots in a cap is not absorbed with the cap. So the protocol has to fix that number, or
+/// the caller has to observe it first: caps of different lengths are no prefix code.
 ///
-/// The errors are those of the challenger, among them that no witness passes, that memory is out, and
+/// The errors are those of the challenger, including a missing witness and out of memory. The error is
 /// [`ChallengerError::DrawLimit`] where fewer than 1000 draws do not find the queries.
 ///
-/// Condition: the bits of the work and of an index are at most what the challenger draws.
+/// Condition: the challenger can draw as many bits at once as the work and an index have.
 pub fn prove<
     EF: BasedVectorSpace<C::Witness> + Drop,
     Cap: Copy,
@@ -72,12 +72,12 @@ pub fn prove<
     Ok((witness, Challenges { folds, queries }))
 }
 
-/// Observes the caps of a proof, and checks its witness. It answers none where the witness does not pass.
+/// Observes the caps of a proof, and checks its witness. The result is `None` where the witness does not pass.
 ///
-/// The errors are those of the challenger, that memory is out, and [`ChallengerError::DrawLimit`] where fewer than 1000
-/// draws do not find the queries.
+/// The errors are those of the challenger, including out of memory. The error is [`ChallengerError::DrawLimit`] where
+/// fewer than 1000 draws do not find the queries.
 ///
-/// Condition: the bits of the work and of an index are at most what the challenger draws.
+/// Condition: the challenger can draw as many bits at once as the work and an index have.
 pub fn verify<
     EF: BasedVectorSpace<C::Witness> + Drop,
     Cap: Copy,

@@ -1,10 +1,11 @@
-//! A protocol as a script over a sponge: the types that play it, its steps as data, and a call for each side. The sponge
-//! has sixteen cells of `BabyBear`, eight of them the rate, and Poseidon2 permutes them.
+//! A protocol as a script over a sponge: its types, its steps as data, and a call for each side. The sponge has sixteen
+//! cells of `BabyBear`, eight of them the rate, and Poseidon2 permutes them.
 //!
 //! Both sides know a list of at most four numbers. The prover sends a salt and at most four values, and finds a witness
 //! for 8 bits of work. Then a challenge is drawn, the prover sends a note that no challenge depends on, and two places
-//! are drawn, of 4 bits each. No code stands here for any of these steps. The contract of [`verify`] says which bytes
-//! are accepted, and what comes of them; that of [`prove_and_verify`], that both sides tell one run, which the values have.
+//! of 4 bits each are drawn. No step has code of its own here. The contract of [`verify`] says which bytes are
+//! accepted, and with which results. The contract of [`prove_and_verify`] says that both sides play one run, that of
+//! the values.
 ghost use Rattle.std.specs.Prelude.{◌≡◌, ◌⊎◌, List, [], IfOk, IfErr, IfSome, None, codes};
 ghost use Rattle.p3_challenger.specs.{Runs.{AreAdmitted, carried_count, interactions}, Scripts.{play_of, values_sent}};
 ghost use Rattle.p3_challenger.specs.{PatternSteps.steps_of, SeparatorSeed.separator_of};
@@ -25,7 +26,7 @@ use p3_poseidon2::Poseidon2BabyBear16;
 use p3_symmetric::{Hash, Sha256Hasher};
 use std::alloc::Global;
 
-/// The types that play the protocol.
+/// The types of the protocol.
 #[derive(Clone, Copy, Debug)]
 pub struct Demo;
 
@@ -62,7 +63,7 @@ impl Suite for Demo {
 /// A challenger of scalars, over Poseidon2.
 pub type Challenger = DuplexChallenger<BabyBear, Poseidon2BabyBear16, 16, 8>;
 
-/// What binds a transcript to the protocol: its version, its name and its pattern.
+/// The type of separators for the protocol's version, name and pattern.
 pub type Separator = DomainSeparator<FieldUnit<BabyBear>, Sha256Hasher>;
 
 // How many elements a draw of uniform bits tries at most.
@@ -74,7 +75,7 @@ fn challenger(permutation: Poseidon2BabyBear16) -> Challenger
     DuplexChallenger::new(permutation, DRAW_LIMIT)
 }
 
-/// The steps of the protocol, for these numbers.
+/// Returns the steps of the protocol, for these numbers.
 pub fn steps(inputs: Vec<BabyBear>) -> [Step<Demo>; 9]
     ensures steps { AreDemoSteps inputs result }
     ensures admitted { AreAdmitted (play_of (⟦<Demo as Meaning>⟧.rules 1)) result }
@@ -120,8 +121,8 @@ pub fn steps(inputs: Vec<BabyBear>) -> [Step<Demo>; 9]
     ]
 }
 
-/// What binds a transcript to the protocol: version 2, the name `demo`, and the pattern of its steps. In practice the only
-/// error is out of memory.
+/// Returns the separator of the protocol: version 2, the name `demo`, and the pattern of its steps. The only
+/// error in practice is out of memory.
 pub fn separator(alloc: Global) -> Result<Separator, TranscriptError>
     ensures named { IfOk result (λ made. ((separator_of made).version ≡ 2)
         × ((separator_of made).name ≡ codes "demo")) }
@@ -132,21 +133,21 @@ pub fn separator(alloc: Global) -> Result<Separator, TranscriptError>
     Separator::new(alloc, 2, b"demo", pattern)
 }
 
-/// What both sides answered of one transcript.
+/// The results of both sides of one transcript.
 #[derive(Drop)]
 pub struct Agreed {
-    /// The prover's answer, with the proof.
+    /// The prover's result, with the proof.
     pub proved: Proved<Demo>,
-    /// What the verifier drew.
+    /// The challenges that the verifier drew.
     pub drawn: Vec<Drawn<Demo>>,
-    /// The verifier's challenger in the end.
+    /// The verifier's final challenger.
     pub challenger: Challenger,
 }
 
-/// Proves that these values were sent, and verifies the proof, which is accepted: both sides draw the same. More than four
-/// numbers are refused at the step of the list.
+/// Proves that these values were sent, and verifies the proof, which is accepted: both sides draw the same challenges.
+/// More than four numbers are refused at the step of the list.
 ///
-/// Nothing is answered exactly where other values are sent than the steps have: a salt of 8 bytes, a list of scalars, and
+/// The result is `None` exactly where the sent values do not fit the steps: a salt of 8 bytes, a list of scalars, and
 /// the bytes of a note. The errors are those of [`script::prove`], and out of memory.
 pub fn prove_and_verify(
     alloc: Global,
@@ -182,8 +183,8 @@ pub fn prove_and_verify(
     }))
 }
 
-/// Verifies a proof with these numbers. Where it is accepted, it is the encoding of just the values that are received, of
-/// a witness that passes, and of nothing more; where it is refused and memory is not out, there are no such values.
+/// Verifies a proof with these numbers. An accepted proof is exactly the encoding of the received values and of a
+/// witness that passes. A proof that is refused, except when out of memory, encodes no such values.
 pub fn verify<'a>(
     alloc: Global,
     permutation: Poseidon2BabyBear16,

@@ -1,4 +1,4 @@
-//! A value that no step carries is observed through the challenger that a driver lends, and then a step is played.
+//! A value outside the steps is observed through the challenger that a driver lends, and then a step is played.
 ghost use Rattle.std.specs.Prelude.{IfOk};
 ghost use Rattle.p3_challenger.specs.Bound.{bound_value};
 ghost use Rattle.p3_challenger.specs.Meanings as meaning;
@@ -15,8 +15,8 @@ use p3_challenger::fs::{
 use p3_field::ScalarField;
 use p3_symmetric::DigestHasher;
 
-/// Observes a value that no step carries, and sends a scalar: the step is played from the challenger that has observed
-/// the value, at the place of the pattern where the prover stood, and its bytes alone are added.
+/// Observes a value outside the steps, and sends a scalar. The step is played from the challenger that has observed
+/// the value, at the prover's place in the pattern, and only the bytes of the step are added.
 ///
 /// The errors are those of the observation, with no step played, and those of the step.
 pub fn send_after<F: ScalarField, T, U, C: CanObserve<T> + Drop, D: DigestHasher, Cdc: Codec<C, F>>(
@@ -36,8 +36,8 @@ pub fn send_after<F: ScalarField, T, U, C: CanObserve<T> + Drop, D: DigestHasher
     prover.add_scalar::<F, Cdc>(label, value)
 }
 
-/// Observes a value that no step carries, and reads a scalar: the step is played from the challenger that has observed
-/// the value, at the place of the pattern where the verifier stood, and it reads of the bytes that were left.
+/// Observes a value outside the steps, and reads a scalar. The step is played from the challenger that has observed
+/// the value, at the verifier's place in the pattern, and reads from the bytes that were left.
 ///
 /// The errors are those of the observation, with no step played, and those of the step.
 pub fn receive_after<

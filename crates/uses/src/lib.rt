@@ -1,18 +1,19 @@
-//! Small callers to start from, each a page that is read by itself, and proved from public contracts alone.
+//! Small callers to start from, each a page that can be read by itself, and proved from public contracts alone.
 //!
-//! - [`protocol`]: a pattern, a prover and a verifier; two messages, challenges, one of them with a rule, and a hint.
-//! - [`demo_script`]: a protocol as a list of steps, which one call proves and one verifies, over a sponge of Poseidon2.
-//! - [`commit_phase`]: caps, challenges, a proof of work and indices, on the challenger itself, as FRI has them.
+//! - [`protocol`]: a pattern, a prover and a verifier, with two messages, challenges, a draw with a rule, and a hint.
+//! - [`demo_script`]: a protocol as a list of steps, with one call to prove and one to verify, over a sponge of
+//!   Poseidon2.
+//! - [`commit_phase`]: caps, challenges, a proof of work and indices, on the challenger itself, as in FRI.
 //! - [`opening`]: a Merkle opening read from a hostile proof.
 //! - `round`: generic code over any challenger, codec and alphabet: [`send_and_draw`], [`receive_and_draw`] and
-//!   [`first_challenge`]. Further ones are `bound_values`, `three_calls` and `extra_value`: which symbols calls fed,
-//!   also where one of them is refused, and that those symbols bind the values; and what a step is played from, after
-//!   a call on the challenger that a driver lends. `pair` sends two scalars of any field in one step; `lists` reads two
-//!   by their places, and halts a verifier.
-//! - [`own_permutation`], [`own_rounds`] and [`own_hasher`]: what to hand in for a permutation other than Poseidon2, one
-//!   of rounds with a table of constants, and a hasher of one's own; [`own_algebra`]: the same of an extension of a field.
-//! - [`two_sums`]: two sumchecks in one transcript, each after the sum that it is of.
-//! - [`read_back`]: what is hashed, or permuted, tells what was observed, or shows a collision.
+//!   [`first_challenge`]. In `bound_values`, `three_calls` and `extra_value` contracts say which symbols calls fed,
+//!   even where one is refused, and that those symbols bind the values. They also say from which state a step is played
+//!   after a call on the challenger that a driver lends. `pair` sends two scalars of any field in one step. `lists`
+//!   reads two scalars by their places, and halts a verifier.
+//! - [`own_permutation`], [`own_rounds`] and [`own_hasher`]: how to supply a permutation other than Poseidon2, one of
+//!   rounds with a table of constants, and a hasher; [`own_algebra`]: how to supply an extension of a field.
+//! - [`two_sums`]: two sumchecks in one transcript, each after its sum.
+//! - [`read_back`]: the hashed strings or permuted states determine what was observed, or show a collision.
 //!
 //! Most have wrong versions in `wrong-bodies/` that their contracts refuse: a challenge drawn too early, a message read
 //! as a hint, bytes left over. The program `examples` plays the protocols.

@@ -1,4 +1,4 @@
-//! Lists that a verifier reads: two scalars by their places, and so many in a list of the caller's own.
+//! Lists that a verifier reads: two scalars by their places, and scalars in a list of the caller's own.
 ghost use Rattle.std.specs.Prelude.{◌≡◌, [], ◌∷◌, true, map, IfOk, IfErr};
 ghost use Rattle.p3_challenger.specs.Bound.{bound_value};
 ghost use Rattle.p3_challenger.specs.Reads as reads;
@@ -12,10 +12,9 @@ use p3_field::ScalarField;
 use p3_symmetric::DigestHasher;
 use std::alloc::{AllocError, Global};
 
-/// Reads two scalars, and answers them in order.
+/// Reads two scalars, and returns them in order.
 ///
-/// The errors are those of the step. How many scalars come back is a clause of the step, so that both may be asked for
-/// by their places.
+/// The errors are those of the step. A clause of the step says how many scalars come back, so both places exist.
 pub fn receive_pair<F: ScalarField, U, C: Sponge + Drop, D: DigestHasher, Cdc: Codec<C, F>>(
     verifier: &mut VerifierState<'_, C, U, D>,
     label: Label,
@@ -29,10 +28,10 @@ pub fn receive_pair<F: ScalarField, U, C: Sponge + Drop, D: DigestHasher, Cdc: C
     Ok((pair[0].into_inner(), pair[1].into_inner()))
 }
 
-/// Reads `n` scalars into a list of the caller's own, without their bounds.
+/// Reads `n` scalars into a list of the caller's own, without their bound wrappers.
 ///
-/// Where memory for that list is refused, the verifier is halted, so that it plays no step after an error, whichever it
-/// is. The errors are those of the step, and [`TranscriptError::OutOfMemory`].
+/// Where memory for that list is refused, the verifier is halted, so that it plays no step after any error. The errors
+/// are those of the step, and [`TranscriptError::OutOfMemory`].
 pub fn receive_list<F: ScalarField, U, C: Sponge + Drop, D: DigestHasher, Cdc: Codec<C, F>>(
     alloc: Global,
     verifier: &mut VerifierState<'_, C, U, D>,

@@ -1,10 +1,10 @@
 //! A Merkle opening read from a hostile proof.
 //!
-//! A prover sends the root of a tree, and a place is drawn. Then it sends the leaf at the place, at most
-//! [`MOST_LEAF_BYTES`] of it, and a salt, without which the leaf could be guessed from its hash; and it gives the
-//! siblings on the way to the root. These are hints: they only have to make up the root, which was observed before the
-//! place was drawn. The contract of [`verify`] says that they do, that the proof is these bytes and no others, and that
-//! whatever is drawn next depends on the leaf and the salt too. The leaf is lent from the proof itself.
+//! A prover sends the root of a tree, and a place is drawn. Then the prover sends the leaf at the place, at most
+//! [`MOST_LEAF_BYTES`] of it, and a salt, without which the leaf could be guessed from its hash. The siblings on the
+//! path to the root are hints: they only have to give the root, which was observed before the place was drawn. The
+//! contract of [`verify`] says that they do, and that the proof is exactly these bytes. It also says that every later
+//! draw depends on the leaf and the salt. The leaf is borrowed from the proof itself.
 ghost use Rattle.std.specs.Prelude.{◌≡◌, ◌<◌, ◌↔◌, ◌++◌, [], ◌∷◌, IsTrue, IfOk, IfSome, OnOk};
 ghost use Rattle.p3_challenger.specs.{HashCalls.with_pending, HashState.observed, Observation.observed_all};
 ghost use Rattle.p3_challenger.specs.{SeparatorSeed.seed_of_separator, Drivers.verifying_of};
@@ -19,16 +19,16 @@ use p3_field::{BabyBear, PrimeField32};
 use p3_symmetric::{DigestHasher, Sha256Hasher};
 use std::alloc::{AllocError, Global};
 
-/// How many leaves the tree has.
+/// The number of leaves of the tree.
 pub const LEAVES: usize = 8;
 
 // How many levels of nodes stand below the root.
 const DEPTH: usize = 3;
 
-/// The most bytes that a leaf has.
+/// The greatest number of bytes in a leaf.
 pub const MOST_LEAF_BYTES: usize = 64;
 
-/// How many bytes a salt has.
+/// The number of bytes in a salt.
 pub const SALT_BYTES: usize = 16;
 
 type Challenger = HashChallenger<u8, Sha256Hasher, 32>;
@@ -38,7 +38,7 @@ type Scalars = BytesToFieldCodec<BabyBear>;
 // An element of the field, by its one coefficient.
 type Coefficient = ExtensionFieldCodec<BabyBear, BabyBear, Scalars>;
 
-/// What binds a transcript to the protocol.
+/// The type of separators for the protocol.
 pub type Separator = DomainSeparator<u8, Sha256Hasher>;
 
 type Prover = ProverState<Challenger, u8, Sha256Hasher>;
@@ -50,20 +50,20 @@ type Node = [u8; 32];
 /// A leaf of the prover's tree.
 #[derive(Clone, Copy)]
 pub struct Leaf<'a> {
-    /// What is in it.
+    /// The contents of the leaf.
     pub bytes: &'a [u8],
-    /// What hides it.
+    /// The salt that hides the contents.
     pub salt: [u8; SALT_BYTES],
 }
 
-/// A leaf that is in the tree, and what the transcript goes on with.
+/// A leaf of the tree, and the challenger for the rest of the transcript.
 #[derive(Debug, Drop)]
 pub struct Opened<'a> {
-    /// Where the leaf is, below [`LEAVES`].
+    /// The place of the leaf, below [`LEAVES`].
     pub place: usize,
-    /// What is in it, at most [`MOST_LEAF_BYTES`].
+    /// The contents of the leaf, at most [`MOST_LEAF_BYTES`].
     pub bytes: &'a [u8],
-    /// The challenger, which observed the root, and then the leaf and its salt.
+    /// The challenger, which has observed the root, the leaf and its salt.
     pub challenger: Challenger,
 }
 
@@ -75,8 +75,8 @@ struct Read<'a> {
     in_tree: bool,
 }
 
-/// Sends the root of the tree of these leaves, and opens one of them. The one error in fact is that memory is out, or
-/// that the opened leaf is too long.
+/// Sends the root of the tree of these leaves, and opens one of them. The only errors in practice are out of memory,
+/// and that the opened leaf is too long.
 pub fn prove(
     alloc: Global,
     separator: &Separator,
@@ -127,7 +127,7 @@ fn root_of(alloc: Global, leaves: &[Leaf<'_>]) -> Result<Node, AllocError> {
     parent(alloc, &root_of(alloc, left)?, &root_of(alloc, right)?)
 }
 
-/// Reads a proof, and gives the leaf that it opens, or none where it is not in the tree.
+/// Reads a proof, and returns the leaf that it opens, or `None` where the leaf is not in the tree.
 ///
 /// The errors are those of the transcript: a proof that is too short or too long, a leaf that is too long, and out of
 /// memory.
@@ -266,7 +266,7 @@ fn challenger(alloc: Global) -> Challenger
     Challenger::new(Vec::new(alloc), Sha256Hasher)
 }
 
-/// The separator of the protocol. The one error in fact is that memory is out.
+/// Returns the separator of the protocol. The only error in practice is out of memory.
 pub fn separator(alloc: Global) -> Result<Separator, TranscriptError> {
     let leaf = Hierarchy::Atomic;
     let sibling = Interaction::bytes(leaf, Kind::Hint, "sibling", Length::Fixed(32));

@@ -1,8 +1,8 @@
-//! An algebra of one's own over a field, for the steps that carry elements of an extension.
+//! A user-defined algebra over a field, for steps that carry elements of an extension.
 //!
-//! A driver asks two things of it: an element by its coefficients, and a text that says which algebra it is, on which
-//! basis. The text is hashed into the pattern, so protocols over two algebras, or on two bases of one, have different
-//! seeds. How elements are added and multiplied no transcript asks.
+//! A driver needs two things of an algebra: an element by its coefficients, and a text that identifies the algebra
+//! and its basis. The text is hashed into the pattern, so protocols over two algebras, or on two bases of one, have
+//! different seeds. A transcript does not use the sums and products of elements.
 ghost use Rattle.std.specs.Prelude.{◌≡◌};
 
 use p3_field::{Algebra, AlgebraIdentity, BabyBear, BasedVectorSpace, Coeffs, Named};
@@ -16,7 +16,7 @@ pub struct Quartic {
 impl Quartic {
     ghost use Rattle.std.specs.Prelude.{◌≡◌};
 
-    /// The polynomial with these coefficients, that of 1 first.
+    /// Returns the polynomial with these coefficients, that of 1 first.
     pub fn new(coefficients: [BabyBear; 4]) -> Self
         ensures { ⟦<Quartic as BasedVectorSpace<BabyBear>>⟧.coefficients result ≡ coefficients }
     {

@@ -1,14 +1,14 @@
-//! A hasher of one's own, for a [`HashChallenger`](p3_challenger::HashChallenger) and for the digests of patterns.
+//! A user-defined hasher, for a [`HashChallenger`](p3_challenger::HashChallenger) and for the digests of patterns.
 //!
-//! What a challenger needs is a function of lists, and that each digest has all its places; what a separator needs is a
-//! function of bytes that the type alone gives, whose digests are 32 bytes. No contract says that two lists with one
-//! digest are hard to find. [`Polynomial`] shows the form and is of no strength.
+//! A challenger needs a function of lists whose digests have a fixed length. A separator needs a function of bytes that
+//! is determined by its type, and whose digests have 32 bytes. No contract says that two lists with one digest are hard
+//! to find. [`Polynomial`] shows the form and has no cryptographic strength.
 ghost use Rattle.std.specs.Prelude.{◌≡◌, ◌%◌};
 ghost use Rattle.uses.specs.OwnHasher.{polynomial};
 
 use p3_symmetric::{CryptographicHasher, DigestHasher};
 
-/// The bytes are the coefficients of a polynomial, and its value at 31 modulo 256 stands in each place of the digest.
+/// Takes the bytes as the coefficients of a polynomial; each place of the digest is its value at 31 modulo 256.
 #[derive(Clone, Copy, Debug)]
 pub struct Polynomial;
 

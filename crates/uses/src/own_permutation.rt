@@ -1,10 +1,10 @@
-//! A permutation of one's own, for a [`DuplexChallenger`](p3_challenger::DuplexChallenger), where it is not to be the
-//! Poseidon2 of `p3_poseidon2`.
+//! A user-defined permutation for a [`DuplexChallenger`](p3_challenger::DuplexChallenger), in place of the Poseidon2 of
+//! `p3_poseidon2`.
 //!
-//! What a challenger needs is one method and one line of contract: which function of the cells the permutation is. That
-//! it is hard to invert, or a permutation at all, no contract says; it is the word of who brings it. Where witnesses are
-//! searched for, it works on states side by side in lanes too, and is proved to make of each what it makes of one alone.
-//! [`Stir`] shows the form and is of no strength.
+//! A challenger needs one method and one clause: which function of the cells the permutation is. No contract says that
+//! it is hard to invert, or one to one; its author vouches for that. For searches of witnesses it also works on states
+//! side by side in lanes. Its result in each lane is proved to be that of the state alone. [`Stir`] shows the form and
+//! has no cryptographic strength.
 ghost use Rattle.std.specs.Prelude.{◌≡◌, ◌+◌, ◌<◌, ℕ};
 ghost use Rattle.p3_field.specs.{BabyBearResidues.residues, Residues.{power_of, plus}};
 
@@ -12,11 +12,11 @@ use p3_challenger::{DuplexChallenger, LanePermutation};
 use p3_field::{BabyBear, BabyBearLanes, PackedValue, PrimeCharacteristicRing};
 use p3_symmetric::CryptographicPermutation;
 
-/// Each of four cells gets its place and one added and is taken to the seventh power; and then all get the sum of all.
+/// Adds to each of four cells its place plus one, takes the seventh powers, and adds their sum to each.
 #[derive(Clone, Copy, Debug)]
 pub struct Stir;
 
-/// A challenger over it: four cells, of which two are the rate.
+/// A challenger over [`Stir`] with four cells, of which two are the rate.
 pub type StirChallenger = DuplexChallenger<BabyBear, Stir, 4, 2>;
 
 impl CryptographicPermutation<[BabyBear; 4]> for Stir {
@@ -65,7 +65,7 @@ fn stirred_lanes(cells: BabyBearLanes, constant: u64) -> BabyBearLanes
     thrice * thrice * once
 }
 
-/// A challenger that observed nothing yet, and draws at most so many values for one that is not rejected.
+/// Returns a challenger that has observed nothing, with a draw limit of 1000 values.
 pub fn stir_challenger() -> StirChallenger {
     StirChallenger::new(Stir, 1000)
 }

@@ -1,9 +1,9 @@
-//! A permutation of rounds, with a table of constants, as Poseidon2 has them: what a larger one looks like.
+//! A permutation of rounds with a table of constants, as in Poseidon2, to show the form of a larger one.
 //!
-//! The constants are fields of the permutation, which its definition is handed too: so no table of the code has to be
-//! held against a table of the definitions, and a test of one's own compares with the vectors of whoever chose them. A
-//! loop needs an invariant: the rounds that are left make of the cells what all of them make of the first ones.
-//! `rt check --start permute_mut` writes the file for it. [`Rounds`] shows the form and is of no strength.
+//! The constants are fields of the permutation, and its definition takes them as arguments. So no table in the code
+//! has to be compared with a table in the definitions, and a user's test compares with published vectors. A loop needs
+//! an invariant: the rounds that are left give the same cells as all rounds give from the start. `rt check --start
+//! permute_mut` writes the file for the invariant. [`Rounds`] shows the form and has no cryptographic strength.
 ghost use Rattle.std.specs.Prelude.{◌≡◌};
 ghost use Rattle.uses.specs.OwnRounds.{after_round};
 
@@ -11,17 +11,18 @@ use p3_challenger::{DuplexChallenger, LanePermutation, permute_each_lane};
 use p3_field::{BabyBear, BabyBearLanes, PrimeCharacteristicRing};
 use p3_symmetric::CryptographicPermutation;
 
-/// How many rounds there are.
+/// The number of rounds.
 pub const ROUNDS: usize = 8;
 
-/// Rounds over two cells. Each adds its constant to the first one, takes that to the seventh power, and mixes the two.
+/// Rounds over two cells. Each adds its constant to the first cell, takes the seventh power of that, and mixes the
+/// two.
 #[derive(Clone, Copy, Debug)]
 pub struct Rounds {
     /// The constant of each round.
     pub constants: [BabyBear; ROUNDS],
 }
 
-/// A challenger over it: two cells, of which one is the rate.
+/// A challenger over [`Rounds`] with two cells, of which one is the rate.
 pub type RoundsChallenger = DuplexChallenger<BabyBear, Rounds, 2, 1>;
 
 impl CryptographicPermutation<[BabyBear; 2]> for Rounds {

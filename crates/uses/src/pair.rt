@@ -1,7 +1,7 @@
 //! Two scalars in one step, as a polynomial of degree one by its values at 0 and 1, over any field.
 //!
-//! Nothing is known here of the field but what [`ScalarField`] says: that it has one coefficient over itself, and that
-//! an array of two elements fits in memory.
+//! The code knows of the field only what [`ScalarField`] says: it has one coefficient over itself, and an array of two
+//! elements fits in memory.
 ghost use Rattle.std.specs.Prelude.{[], ◌∷◌};
 ghost use Rattle.p3_challenger.specs.{Bound.bound_values, Drivers.proving_of, Proving.WritesOrRefuses};
 ghost use Rattle.p3_challenger.specs.Steps.{algebra_of, algebra_step};

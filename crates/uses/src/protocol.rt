@@ -1,8 +1,8 @@
-//! A small protocol, whole: the pattern of its steps, a prover and a verifier.
+//! A small but complete protocol: the pattern of its steps, a prover and a verifier.
 //!
 //! The prover sends a line over a field. A place is drawn, and a divisor other than 0. The prover gives the line's
-//! value at the place, divided by the divisor. That number is a hint: it is not absorbed, so no challenge depends on
-//! it, and the verifier checks it by itself. The place and the divisor have to depend on the line. The contract of
+//! value at the place, divided by the divisor. That number is a hint: it is not absorbed, no challenge depends on
+//! it, and the verifier checks it directly. The place and the divisor have to depend on the line. The contract of
 //! [`verify`] says that they do, and which bytes the proof is.
 ghost use Rattle.std.specs.Prelude.{◌≡◌, ◌+◌, ◌++◌, ℕ, List, [], Some, codes, length, IfOk, OnOk, MatchResult};
 ghost use Rattle.p3_challenger.specs.{HashCalls.with_pending, Drivers.{proving_of, verifying_of}, Reading.AreBytes};
@@ -34,7 +34,7 @@ type Scalars = BytesToFieldCodec<BabyBear>;
 // An element of the field, by its one coefficient.
 type Coefficient = ExtensionFieldCodec<BabyBear, BabyBear, Scalars>;
 
-/// What binds a transcript to the protocol: its version, its name and its pattern.
+/// The type of separators for the protocol's version, name and pattern.
 pub type Separator = DomainSeparator<u8, Sha256Hasher>;
 
 type Prover = ProverState<Challenger, u8, Sha256Hasher>;
@@ -44,7 +44,7 @@ type Verifier<'a> = VerifierState<'a, Challenger, u8, Sha256Hasher>;
 /// What a verifier has read and drawn.
 #[derive(Clone, Copy, Debug)]
 pub struct Claim {
-    /// How much the line rises from one place to the next.
+    /// The slope of the line: its rise from one place to the next.
     pub slope: BabyBear,
     /// The line's value at 0.
     pub offset: BabyBear,
@@ -56,7 +56,7 @@ pub struct Claim {
     pub quotient: BabyBear,
 }
 
-/// What contracts say of the protocol, at the types that it is played with.
+/// The view of contracts on the protocol, at its types.
 pub trait Line {
     // Its steps.
     ghost steps: { List Step };
@@ -77,7 +77,7 @@ impl Line for Claim {
         (record { sponge = with_pending seed; hasher = record {} }) claim proof };
 }
 
-/// Sends the line, and gives the bytes of the proof. The one error in fact is that memory is out.
+/// Sends the line, and returns the bytes of the proof. The only error in practice is out of memory.
 pub fn prove(
     alloc: Global,
     separator: &Separator,
@@ -121,11 +121,11 @@ fn send(
     prover.add_hint("quotient", &hint)
 }
 
-/// Reads a proof, and gives the claim that it makes, or none where its quotient is wrong. A proof has 12 bytes.
+/// Reads a proof, and returns the claim that it makes, or `None` where its quotient is wrong. A proof has 12 bytes.
 ///
 /// The errors are those of the transcript: a proof that is too short or too long, a number that is no element of the
-/// field, and out of memory. A proof that [`prove`] sent under the same separator, one that [`separator`] made, is
-/// accepted, for the same claim; only being out of memory can come instead.
+/// field, and out of memory. A proof that [`prove`] sent under the same separator, made by [`separator`], is
+/// accepted for the same claim. Only out of memory can come instead.
 pub fn verify(
     alloc: Global,
     separator: &Separator,
@@ -229,9 +229,9 @@ fn challenger(alloc: Global) -> Challenger
     Challenger::new(Vec::new(alloc), Sha256Hasher)
 }
 
-/// What every challenge depends on besides the messages: version, name, and the pattern of the steps.
+/// Returns the separator, on which every challenge depends: the version, the name, and the pattern of the steps.
 ///
-/// The one error in fact is that memory is out.
+/// The only error in practice is out of memory.
 pub fn separator(alloc: Global) -> Result<Separator, TranscriptError>
     ensures { IfOk result (λ separator. (pattern_of separator).steps ≡ ⟦<Claim as Line>⟧.steps) }
 {

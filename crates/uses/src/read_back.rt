@@ -1,10 +1,10 @@
-//! Challengers for who sees what was hashed, or permuted, and nothing else. Where a verifier's run is itself proved,
-//! the proof fixes the inputs of the hash function or of the permutation, and not the calls on the challenger. Those
-//! inputs tell what was observed, or two of them collide. Each function here cites the contract of the `new` that it
-//! calls.
+//! Challengers for callers who see only the hashed strings or the permuted states. Where a verifier's run is itself
+//! proved, the proof fixes the inputs of the hash function or of the permutation, and not the calls on the challenger.
+//! Those inputs determine what was observed, or two of them collide. Each function here cites the contract of the `new`
+//! that it calls.
 //!
-//! Two cells of rate under [`Turn<2>`](p3_symmetric::Turn), which makes (c + 1, a + 2, b + 3) of (a, b, c) and has no
-//! strength: other values were observed, and the same state is permuted last.
+//! The example has two cells of rate under [`Turn<2>`](p3_symmetric::Turn), which maps (a, b, c) to (c + 1, a + 2, b +
+//! 3) and has no strength. Different values are observed, and the same state is permuted last.
 //!
 //! ```text
 //! observe 1, 0, 7, 7            observe 2, 0, 7, 7
@@ -26,7 +26,7 @@ use p3_challenger::{DuplexChallenger, HashChallenger};
 use p3_field::{BabyBear, PrimeField64};
 use p3_symmetric::{CryptographicHasher, CryptographicPermutation};
 
-/// A challenger of bytes: what it hashes tells the bytes that were observed, or two strings have one digest.
+/// Returns a challenger of bytes whose hashed strings determine the observed bytes, unless two strings have one digest.
 pub fn begin_with_bytes<H: CryptographicHasher<u8, [u8; 32]>>(
     initial_state: Vec<u8>,
     hasher: H,
@@ -38,7 +38,7 @@ pub fn begin_with_bytes<H: CryptographicHasher<u8, [u8; 32]>>(
     HashChallenger::new(initial_state, hasher)
 }
 
-/// A challenger of elements of any field, over a hash function of them: the same.
+/// Returns a challenger of field elements, over a hash function of them, with the same property.
 ///
 /// Condition: `OUT_LEN` is at least 1.
 pub fn begin_with_elements<
@@ -54,10 +54,10 @@ pub fn begin_with_elements<
     HashChallenger::new(initial_state, hasher)
 }
 
-/// A challenger of elements of `BabyBear`, of 16 cells of which 8 are the rate: what it permutes tells the elements
-/// that were observed, or two states collide in all but the rate. So of two rounds, in each of which elements are
-/// observed and one is drawn: where two runs of them permute the same states, and leave the same pending, they observed
-/// the same elements.
+/// Returns a challenger of `BabyBear` elements, with 16 cells of which 8 are the rate. The permuted states determine
+/// the observed elements, unless two states collide in all cells except the rate. The same holds of two rounds, each of
+/// which observes elements and draws one. Two runs of them that permute the same states and leave the same pending
+/// elements observed the same elements.
 ///
 /// Condition: the draw limit is at least 1.
 pub fn begin_with_zeros<P: CryptographicPermutation<[BabyBear; 16]>>(

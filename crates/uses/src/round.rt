@@ -1,8 +1,8 @@
-//! A round of a protocol over any challenger, codec and alphabet: a scalar is sent, and then one is drawn.
+//! A round of a protocol over any challenger, codec and alphabet: a scalar is sent, and another is drawn.
 //!
-//! [`send_and_draw`] is the prover's side, and [`receive_and_draw`] the verifier's. Both have contracts of their own,
-//! on what the drawn scalar depends on: just the symbols of the sent one. Nothing is known here of the challenger and
-//! the codec; the contracts of the drivers' steps and three laws say it, each called in a body for its clause.
+//! [`send_and_draw`] is the prover's side, and [`receive_and_draw`] the verifier's. Their contracts say that the drawn
+//! scalar depends on exactly the symbols of the sent one. The code knows nothing of the challenger and the codec. The
+//! contracts of the drivers' steps and three laws suffice, and a body calls each law for its clause.
 ghost use Rattle.std.specs.Prelude.{◌≡◌, ◌≤◌, ◌++◌, Some, flat_map, IfOk, OnErr};
 ghost use Rattle.p3_challenger.specs.{Bound.bound_value, Drivers.{proving_of, verifying_of}, Dependence.DrawsAfter};
 ghost use Rattle.p3_challenger.specs.SeparatorSeed.{seed_of_separator};
@@ -19,13 +19,13 @@ use p3_field::ScalarField;
 use p3_symmetric::DigestHasher;
 use std::alloc::Global;
 
-/// Sends a scalar, and then draws one. Between the two, the challenger was fed just the symbols of the sent one.
+/// Sends a scalar and draws another. Between the two, the challenger was fed exactly the symbols of the sent scalar.
 ///
-/// The errors are those of the two steps. After one a front of the symbols was fed, or all of them were and then some
+/// The errors are those of the two steps. After an error a prefix of the symbols was fed, or all of them were and some
 /// of the challenger's smallest draws were made.
 ///
-/// Condition: the codec has at least [`MIN_CHALLENGE_SECURITY_BITS`](p3_challenger::fs::MIN_CHALLENGE_SECURITY_BITS) of
-/// security.
+/// Condition: the codec has at least [`MIN_CHALLENGE_SECURITY_BITS`](p3_challenger::fs::MIN_CHALLENGE_SECURITY_BITS)
+/// bits of security.
 pub fn send_and_draw<
     F: ScalarField,
     U: Unit,
@@ -50,7 +50,7 @@ pub fn send_and_draw<
     prover.challenge_scalar::<F, Cdc>("drawn")
 }
 
-/// What a verifier has of a round.
+/// The scalars that a verifier has after a round.
 #[derive(Clone, Copy, Debug)]
 pub struct Round<F> {
     /// The scalar that was sent.
@@ -59,13 +59,13 @@ pub struct Round<F> {
     pub drawn: F,
 }
 
-/// Reads a scalar, and then draws one. Between the two, the challenger was fed just the symbols of the one that was
+/// Reads a scalar and draws another. Between the two, the challenger was fed exactly the symbols of the scalar that was
 /// read.
 ///
 /// The errors are those of the two steps.
 ///
-/// Condition: the codec has at least [`MIN_CHALLENGE_SECURITY_BITS`](p3_challenger::fs::MIN_CHALLENGE_SECURITY_BITS) of
-/// security.
+/// Condition: the codec has at least [`MIN_CHALLENGE_SECURITY_BITS`](p3_challenger::fs::MIN_CHALLENGE_SECURITY_BITS)
+/// bits of security.
 pub fn receive_and_draw<
     F: ScalarField,
     U: Unit,
@@ -87,13 +87,13 @@ pub fn receive_and_draw<
     })
 }
 
-/// The first challenge of a protocol that begins with a scalar: it is drawn from a challenger that was fed just the
-/// symbols of the separator's seed and of the scalar.
+/// Draws the first challenge of a protocol that begins with a scalar. The challenger was fed exactly the symbols of the
+/// separator's seed and of the scalar.
 ///
-/// The errors are those of a new prover and of the two steps: what they leave is let go.
+/// The errors are those of a new prover and of the two steps. After an error everything is dropped.
 ///
 /// Conditions: `U` is an alphabet, and the codec has at least
-/// [`MIN_CHALLENGE_SECURITY_BITS`](p3_challenger::fs::MIN_CHALLENGE_SECURITY_BITS) of security.
+/// [`MIN_CHALLENGE_SECURITY_BITS`](p3_challenger::fs::MIN_CHALLENGE_SECURITY_BITS) bits of security.
 pub fn first_challenge<
     F: ScalarField,
     U: Unit,

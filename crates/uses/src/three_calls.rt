@@ -1,5 +1,5 @@
-//! Three calls in a row on any challenger: a value is observed, then others as one slice, then a value is drawn.
-//! Where one of the calls is refused, the traits alone say which front of the symbols was fed.
+//! Three calls in a row on any challenger: a value is observed, others are observed as one slice, and a value is
+//! drawn. Where one of the calls is refused, the traits alone say which prefix of the symbols was fed.
 ghost use Rattle.std.specs.Prelude.{◌++◌, flat_map, IfOk, IfErr};
 ghost use Rattle.p3_challenger.specs.Dependence.{DrawsAfter};
 ghost use Rattle.uses.specs.ThreeCalls.{RefusesThreeCalls};
@@ -8,9 +8,9 @@ use p3_challenger::{CanObserve, CanSample, ChallengerError};
 
 /// Observes a value and then others as one slice, and draws a value that depends on them all.
 ///
-/// The errors are [`ChallengerError::OutOfMemory`], after which a front of the symbols of the observed values was
-/// fed, or all of them and then some of the smallest draws were made; and [`ChallengerError::DrawLimit`] of the draw,
-/// with everything observed and the draw made.
+/// The errors are [`ChallengerError::OutOfMemory`] and the draw's [`ChallengerError::DrawLimit`]. After the former a
+/// prefix of the symbols of the observed values was fed, or all of them were and some smallest draws were made. After
+/// the latter everything is observed and the draw is made.
 pub fn observe_and_draw<A, B, X: Drop, C: CanObserve<A> + CanObserve<B> + CanSample<X>>(
     challenger: &mut C,
     first: A,

@@ -1,8 +1,8 @@
-//! Two sumchecks in one transcript, each after the sum that it is of: `p3_sumcheck` inside a larger pattern.
+//! Two sumchecks in one transcript, each after its sum: `p3_sumcheck` inside a larger pattern.
 //!
-//! A prover has two tables of `2^n` values. It sends the sum of the first, and plays its rounds; and then the same of
-//! the second, whose challenges depend on all that was sent before. Whoever has the tables checks in the end that each
-//! has the last value at its point.
+//! A prover has two tables of `2^n` values. It sends the sum of the first, and plays its rounds. Then it does the same
+//! for the second, whose challenges depend on everything sent before. Whoever has the tables checks at the end that
+//! each has the last value at its point.
 ghost use Rattle.std.specs.Prelude.{◌≡◌, ◌≤◌, ◌^◌, ◌++◌, [], ℕ, List, false, length, IfErr, IfOk, MatchResult, OnOk};
 ghost use Rattle.p3_challenger.specs.{Completeness.IsOwnRefusal, Driving.Driving, Drivers.{proving_of, verifying_of}};
 ghost use Rattle.p3_challenger.specs.{Observation.observed_all, PatternGrammar.IsViable, PatternSteps.steps_of};
@@ -25,20 +25,20 @@ use p3_sumcheck::{SumcheckError, declare, prove, sum, verify};
 use p3_symmetric::DigestHasher;
 use std::alloc::Global;
 
-/// What a verifier is left with of a sum.
+/// What a verifier is left with for one sum.
 #[derive(Debug, Drop)]
 pub struct Reduced<F> {
     /// The sum that was sent.
     pub sum: F,
     /// The point of its rounds.
     pub point: Vec<F>,
-    /// The value that the table has there, where the sum is right.
+    /// The value of the table at the point, if the sum is right.
     pub value: F,
 }
 
-/// The pattern of two sums of tables of `2^n` values, where `n` is the number of rounds.
+/// Returns the pattern of two sums of tables of `2^n` values, where `n` is the number of rounds.
 ///
-/// The one error is that memory is out.
+/// The one error is out of memory.
 pub fn pattern<F: ScalarField, U, D: DigestHasher>(
     alloc: Global,
     rounds: usize,
@@ -81,12 +81,12 @@ fn record_sum<F: ScalarField, U, D: DigestHasher>(
     declare::<F, U, D>(recorder, rounds)
 }
 
-/// Sends both tables, and gives the bytes of the proof.
+/// Sends both tables, and returns the bytes of the proof.
 ///
-/// Under a separator of that pattern the challenger or the alphabet alone refuses, or memory is out.
+/// Under a separator of that pattern a step is refused only by the challenger, by the alphabet, or for memory.
 ///
 /// Conditions: the tables have `2^n` values, `U` is an alphabet, and the codec has at least
-/// [`MIN_CHALLENGE_SECURITY_BITS`](p3_challenger::fs::MIN_CHALLENGE_SECURITY_BITS) of security.
+/// [`MIN_CHALLENGE_SECURITY_BITS`](p3_challenger::fs::MIN_CHALLENGE_SECURITY_BITS) bits of security.
 pub fn prove_two<
     F: ScalarField,
     U: Unit,
@@ -176,18 +176,18 @@ fn send_sum<
     Ok(())
 }
 
-/// Reads a proof of two sums, and gives what is left of each.
+/// Reads a proof of two sums, and returns what is left of each.
 ///
-/// What is accepted of any bytes are two sums, each in the one encoding of its element, and after each so many rounds that
-/// bring it to the value that is left, with nothing after them. Whether a value is that of a table at its point is for who
-/// has the table to see. What [`prove_two`] sent from an equal challenger under the same separator is accepted, with the
-/// sums of its tables and the value of each at its point; or memory is out.
+/// Accepted bytes are exactly two sums, each in the one encoding of its element. Each sum has the rounds after it that
+/// lead to the value left. Whoever has a table has to check the value at its point. A proof that [`prove_two`] sent
+/// from an equal challenger under the same separator is accepted, with the sums of its tables and the value of each at
+/// its point. Only out of memory can come instead.
 ///
-/// Under a separator of that pattern the error is [`SumcheckError::Round`] of a pair that does not add to the claim; else the
-/// proof has another shape, the challenger or the alphabet refuses, or memory is out.
+/// Under a separator of that pattern the error is [`SumcheckError::Round`] where a pair does not add up to the claim.
+/// Else the proof has another shape, or the challenger, the alphabet or memory refuses a step.
 ///
 /// Conditions: `U` is an alphabet, and the codec has at least
-/// [`MIN_CHALLENGE_SECURITY_BITS`](p3_challenger::fs::MIN_CHALLENGE_SECURITY_BITS) of security.
+/// [`MIN_CHALLENGE_SECURITY_BITS`](p3_challenger::fs::MIN_CHALLENGE_SECURITY_BITS) bits of security.
 pub fn verify_two<
     F: ScalarField,
     U: Unit,

@@ -5,10 +5,10 @@
 //! steps, the proof  ->  verify  ->  the values, the challenges
 //! ```
 //!
-//! A [`Suite`] names the types that play together. Where a value depends on a challenge, [`prove_by`] asks for it when its
-//! step comes; step by step both sides are played by [`prover_step`] and [`verifier_step`]. That bytes are a proof of one
-//! run at most is the law [`proofs_have_one_run`], and what the symbols say of a run that it fed the challenger is the law
-//! [`binding`]. Not in the Rust crate.
+//! A [`Suite`] names the types that play together. Where a value depends on a challenge, [`prove_by`] asks for the
+//! value at its step. [`prover_step`] and [`verifier_step`] play a single step of either side. The law
+//! [`proofs_have_one_run`] says that bytes are a proof of at most one run. The law [`binding`] says how the symbols
+//! fed to the challenger bind the run. Not in the Rust crate.
 
 pub use p3_binding::binding;
 pub use p3_script::{

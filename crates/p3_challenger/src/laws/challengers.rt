@@ -1,3 +1,3 @@
-//! What do calls on a challenger amount to?
+//! What does a sequence of calls do to a challenger?
 
 pub use p3_challenger_core::{array_has_places, calls_have_one_cut};

@@ -1,4 +1,4 @@
-//! Does a verifier play what a prover has played?
+//! Does a verifier accept each step that a prover has played?
 
 pub use p3_step_laws::{
     carried_lists_are_let_through, carried_work_agrees, counted_hint_is_received, drawn_bits_agree,

@@ -1,4 +1,4 @@
-//! Why is a step refused, and can it be for two reasons?
+//! Why is a step refused, and can there be two reasons for it?
 
 pub use p3_driver_core::{
     finished_players_refuse, listed_steps_are_next, next_steps_are_not_wrong,

@@ -1,4 +1,4 @@
-//! What binds a script's challenges to what came before, and is a proof one of a single run?
+//! What does a script's challenge bind, and is each proof a proof of a single run?
 
 pub use p3_binding::binding;
 pub use p3_script::{proofs_have_one_run, script_steps_are_lawful};

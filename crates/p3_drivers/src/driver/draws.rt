@@ -1,4 +1,4 @@
-//! The steps that draw challenges. They leave the proof as it is.
+//! The steps that draw challenges, which leave the proof unchanged.
 ghost use Rattle.std.specs.Prelude.{◌≡◌, ◌≤◌, ℕ, true, IfErr, IfOk, vec_len};
 ghost use Rattle.p3_driver_core.specs.Bound.{bound_value, bound_values};
 ghost use Rattle.p3_driver_core.specs.Meanings as meaning;
@@ -25,8 +25,8 @@ use p3_symmetric::DigestHasher;
 impl<C: Sponge, U, D: DigestHasher, P: Tape> DriverState<C, U, D, P> {
     /// Draws one scalar.
     ///
-    /// Condition: the codec has at least [`MIN_CHALLENGE_SECURITY_BITS`](p3_codecs::MIN_CHALLENGE_SECURITY_BITS) of
-    /// security.
+    /// Condition: the codec has at least [`MIN_CHALLENGE_SECURITY_BITS`](p3_codecs::MIN_CHALLENGE_SECURITY_BITS) bits
+    /// of security.
     pub fn challenge_scalar<F: ScalarField, Cdc: Codec<C, F>>(
         &mut self,
         label: Label,
@@ -41,8 +41,8 @@ impl<C: Sponge, U, D: DigestHasher, P: Tape> DriverState<C, U, D, P> {
 
     /// Draws `n` scalars.
     ///
-    /// Condition: the codec has at least [`MIN_CHALLENGE_SECURITY_BITS`](p3_codecs::MIN_CHALLENGE_SECURITY_BITS) of
-    /// security.
+    /// Condition: the codec has at least [`MIN_CHALLENGE_SECURITY_BITS`](p3_codecs::MIN_CHALLENGE_SECURITY_BITS) bits
+    /// of security.
     pub fn challenge_scalars<F: ScalarField, Cdc: Codec<C, F>>(
         &mut self,
         label: Label,
@@ -59,8 +59,8 @@ impl<C: Sponge, U, D: DigestHasher, P: Tape> DriverState<C, U, D, P> {
 
     /// Draws one element of an extension, coefficient 0 first.
     ///
-    /// Condition: the codec has at least [`MIN_CHALLENGE_SECURITY_BITS`](p3_codecs::MIN_CHALLENGE_SECURITY_BITS) of
-    /// security.
+    /// Condition: the codec has at least [`MIN_CHALLENGE_SECURITY_BITS`](p3_codecs::MIN_CHALLENGE_SECURITY_BITS) bits
+    /// of security.
     pub fn challenge_extension<
         F: TranscriptField,
         EF: AlgebraIdentity<F> + Named,
@@ -77,8 +77,8 @@ impl<C: Sponge, U, D: DigestHasher, P: Tape> DriverState<C, U, D, P> {
 
     /// Draws `n` elements of an extension.
     ///
-    /// Condition: the codec has at least [`MIN_CHALLENGE_SECURITY_BITS`](p3_codecs::MIN_CHALLENGE_SECURITY_BITS) of
-    /// security.
+    /// Condition: the codec has at least [`MIN_CHALLENGE_SECURITY_BITS`](p3_codecs::MIN_CHALLENGE_SECURITY_BITS) bits
+    /// of security.
     pub fn challenge_extensions<
         F: TranscriptField,
         EF: AlgebraIdentity<F> + Named,
@@ -94,21 +94,20 @@ impl<C: Sponge, U, D: DigestHasher, P: Tape> DriverState<C, U, D, P> {
         self.draw_list::<F, EF, ExtensionFieldCodec<F, EF, Cdc>>(label, n)
     }
 
-    /// Draws elements of an extension until the rule `accept` has taken `n`, and answers these in order.
+    /// Draws elements of an extension until the rule `accept` has accepted `n`, and returns these in order.
     ///
-    /// The rule is asked of each candidate beside those kept before it. Right after it has refused `limit` candidates
-    /// in a row, counted from the last kept one or the start, the step is refused with
-    /// [`ChallengerError::DrawLimit`](p3_challenger_core::ChallengerError::DrawLimit), as it is where the challenger
-    /// meets its own draw limit: what was drawn is consumed. To keep none, nothing is drawn. The Rust crate
-    /// has no limit.
+    /// The rule is called for each candidate, with those kept before it. The step is refused with
+    /// [`ChallengerError::DrawLimit`](p3_challenger_core::ChallengerError::DrawLimit) right after the rule has refused
+    /// `limit` candidates in a row. They are counted from the last kept one or the start. The same error comes where
+    /// the challenger meets its own draw limit. In both cases what was drawn is consumed. To keep none, nothing is
+    /// drawn. The Rust crate has no limit.
     ///
-    /// Conditions: the rule may be asked at any time, and the codec has at least
-    /// [`MIN_CHALLENGE_SECURITY_BITS`](p3_codecs::MIN_CHALLENGE_SECURITY_BITS) of security.
+    /// Conditions: the rule may be called at any time, and the codec has at least
+    /// [`MIN_CHALLENGE_SECURITY_BITS`](p3_codecs::MIN_CHALLENGE_SECURITY_BITS) bits of security.
     ///
-    /// What is drawn, kept and answered is said of a rule that is a function of its arguments. Of one that answers
-    /// otherwise when it is asked the same again, this is said: the bytes of the proof stay as they are, `n` values are
-    /// answered, and only where the step is the next one, nothing is drawn where it is not, and a refused step is the
-    /// last one.
+    /// The contract says what is drawn, kept and returned for a rule that is a function of its arguments. For any other
+    /// rule it says only this. The bytes of the proof stay the same. Only where the step is the next one are `n` values
+    /// returned; where it is not, nothing is drawn. A refused step is the last one.
     pub fn challenge_extensions_rejecting<
         F: TranscriptField,
         EF: AlgebraIdentity<F> + Named,
@@ -166,7 +165,7 @@ impl<C: Sponge, U, D: DigestHasher, P: Tape> DriverState<C, U, D, P> {
         Ok(bounds)
     }
 
-    /// Draws `n` numbers of `width` uniform bits: another value is drawn in the place of one that is rejected.
+    /// Draws `n` numbers of `width` uniform bits. A rejected value is replaced by another draw.
     ///
     /// Condition: `width` is at most [`max_bits`](p3_challenger_core::CanSampleBits::max_bits).
     pub fn challenge_uniform_bits<F>(
@@ -190,22 +189,21 @@ impl<C: Sponge, U, D: DigestHasher, P: Tape> DriverState<C, U, D, P> {
         Ok(bounds)
     }
 
-    /// Draws numbers of `width` uniform bits until the rule `accept` has taken `n`, and answers these in order. Another
-    /// value is drawn in the place of one that is rejected before the rule is asked.
+    /// Draws numbers of `width` uniform bits until the rule `accept` has accepted `n`, and returns these in order. A
+    /// value that the challenger rejects is replaced by another draw before the rule is called.
     ///
-    /// The rule is asked of each number beside those kept before it. Right after it has refused `limit` numbers in a
-    /// row, counted from the last kept one or the start, the step is refused with
-    /// [`ChallengerError::DrawLimit`](p3_challenger_core::ChallengerError::DrawLimit), as it is where the challenger
-    /// meets its own draw limit: what was drawn is consumed. To keep none, nothing is drawn. The Rust crate
-    /// has no limit.
+    /// The rule is called for each number, with those kept before it. The step is refused with
+    /// [`ChallengerError::DrawLimit`](p3_challenger_core::ChallengerError::DrawLimit) right after the rule has refused
+    /// `limit` numbers in a row. They are counted from the last kept one or the start. The same error comes where the
+    /// challenger meets its own draw limit. In both cases what was drawn is consumed. To keep none, nothing is drawn.
+    /// The Rust crate has no limit.
     ///
-    /// Conditions: the rule may be asked at any time, and `width` is at most
+    /// Conditions: the rule may be called at any time, and `width` is at most
     /// [`max_bits`](p3_challenger_core::CanSampleBits::max_bits).
     ///
-    /// What is drawn, kept and answered is said of a rule that is a function of its arguments. Of one that answers
-    /// otherwise when it is asked the same again, this is said: the bytes of the proof stay as they are, `n` values are
-    /// answered, and only where the step is the next one, nothing is drawn where it is not, and a refused step is the
-    /// last one.
+    /// The contract says what is drawn, kept and returned for a rule that is a function of its arguments. For any other
+    /// rule it says only this. The bytes of the proof stay the same. Only where the step is the next one are `n` values
+    /// returned; where it is not, nothing is drawn. A refused step is the last one.
     pub fn challenge_uniform_bits_rejecting<F, R: Fn(usize, &[usize]) -> bool>(
         &mut self,
         label: Label,

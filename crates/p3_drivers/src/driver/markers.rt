@@ -1,4 +1,4 @@
-//! The steps that open and close containers. They take no part in the challenger and in the proof.
+//! The steps that open and close containers, which change neither the challenger nor the proof.
 ghost use Rattle.std.specs.Prelude.{IsOk};
 ghost use Rattle.p3_fs_core.specs.{Steps.marker_of, declared.step.Kind.TheVariants.Protocol};
 ghost use Rattle.p3_driver_core.specs.Transcripts.{IsNext};
@@ -13,7 +13,8 @@ use p3_fs_core::{Hierarchy, Interaction, Kind, Label, TranscriptError};
 use p3_symmetric::DigestHasher;
 
 impl<C: Sponge, U, D: DigestHasher, P: Tape> DriverState<C, U, D, P> {
-    /// Opens a container of the kind. `T` names the container for those who read its steps. It takes no memory.
+    /// Opens a container of the kind. `T` names the container in the pattern's steps. This call takes no
+    /// memory.
     pub fn begin<T: Named>(&mut self, label: Label, kind: Kind) -> Result<(), TranscriptError>
         ensures exact { Keeps C.state P.bytes (meaning.marked {Symbol = C.Symbol} (marker_of
             Hierarchy.Begin kind label.now T.name_bytes)) self.old (λ _. tt {0}) result self.new }
@@ -23,7 +24,7 @@ impl<C: Sponge, U, D: DigestHasher, P: Tape> DriverState<C, U, D, P> {
         self.mark::<T>(Hierarchy::Begin, kind, label)
     }
 
-    /// Closes a container of the kind, with the label and the `T` of its opener. It takes no memory.
+    /// Closes a container of the kind, with the label and the `T` of its opener. This call takes no memory.
     pub fn end<T: Named>(&mut self, label: Label, kind: Kind) -> Result<(), TranscriptError>
         ensures exact { Keeps C.state P.bytes (meaning.marked {Symbol = C.Symbol} (marker_of
             Hierarchy.End kind label.now T.name_bytes)) self.old (λ _. tt {0}) result self.new }
@@ -33,7 +34,7 @@ impl<C: Sponge, U, D: DigestHasher, P: Tape> DriverState<C, U, D, P> {
         self.mark::<T>(Hierarchy::End, kind, label)
     }
 
-    /// Opens a container that may hold steps of any kind. It takes no memory.
+    /// Opens a container that may hold steps of any kind. This call takes no memory.
     pub fn begin_protocol<T: Named>(&mut self, label: Label) -> Result<(), TranscriptError>
         ensures exact { Keeps C.state P.bytes (meaning.marked {Symbol = C.Symbol}
             (marker_of Hierarchy.Begin Protocol label.now T.name_bytes))
@@ -44,7 +45,7 @@ impl<C: Sponge, U, D: DigestHasher, P: Tape> DriverState<C, U, D, P> {
         self.mark::<T>(Hierarchy::Begin, Kind::Protocol, label)
     }
 
-    /// Closes a container that may hold steps of any kind. It takes no memory.
+    /// Closes a container that may hold steps of any kind. This call takes no memory.
     pub fn end_protocol<T: Named>(&mut self, label: Label) -> Result<(), TranscriptError>
         ensures exact { Keeps C.state P.bytes (meaning.marked {Symbol = C.Symbol} (marker_of
             Hierarchy.End Protocol label.now T.name_bytes)) self.old (λ _. tt {0}) result self.new }

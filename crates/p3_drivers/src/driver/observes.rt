@@ -1,4 +1,4 @@
-//! The steps that observe values which the proof does not carry, as both sides play them.
+//! The steps by which both sides observe values that the proof does not carry.
 ghost use Rattle.std.specs.Prelude.{◌≡◌, ◌≤◌, length, IfOk, vec_len};
 ghost use Rattle.p3_driver_core.specs.{Bound.{bound_value, bound_values}, Transcripts.opaque_step};
 ghost use Rattle.p3_drivers.specs.Drivers.{Keeps};
@@ -31,9 +31,9 @@ impl<C: Sponge, U, D: DigestHasher, P: Tape> DriverState<C, U, D, P> {
         self.observe_element::<F, EF, ExtensionFieldCodec<F, EF, Cdc>>(Kind::Message, label, value)
     }
 
-    /// Observes a value as the challenger itself knows how, which the proof does not carry.
+    /// Observes a value that the proof does not carry, in the challenger's own way.
     ///
-    /// Condition: clones of the value equal it, which the Rust crate does not ask.
+    /// Condition: clones of the value equal the value. The Rust crate does not require this.
     pub fn observe_opaque<T: Clone>(
         &mut self,
         label: Label,

@@ -1,4 +1,4 @@
-//! The steps of a verifier that read the proof, and those that observe what both sides know.
+//! The verifier's steps that read the proof, and those that observe values known to both sides.
 ghost use Rattle.std.specs.Prelude.{◌≡◌, ◌≤◌, ◌↔◌, ◌*◌, IsTrue, length, IfOk, IfErr, vec_len};
 ghost use Rattle.p3_challenger_core.specs.Observation.{observed_all};
 ghost use Rattle.p3_driver_core.specs.{Bound.{bound_value, bound_values}, Reads.{AnswersRead, AnswersList}};
@@ -21,11 +21,11 @@ use p3_fs_core::{
 use p3_symmetric::DigestHasher;
 
 impl<'a, U: Unit, C: CanObserve<U::Item>, D: DigestHasher> VerifierState<'a, C, U, D> {
-    /// Observes at most `max` elements of an extension, after their count, which the proof does not carry.
+    /// Observes at most `max` elements of an extension that the proof does not carry, after their count.
     ///
-    /// More are refused with [`TranscriptError::BadProofShape`] and `list length exceeds the recorded maximum`,
-    /// whatever the next step is, unless a step was refused before. Nothing is absorbed then. Condition: `U` is an
-    /// alphabet.
+    /// A longer list is refused with [`TranscriptError::BadProofShape`] and `list length exceeds the recorded maximum`.
+    /// This holds whatever the next step is, unless a step was refused before. Nothing is absorbed then. Condition: `U`
+    /// is an alphabet.
     pub fn observe_extensions_bounded<
         F: TranscriptField,
         EF: AlgebraIdentity<F> + Named,
@@ -55,9 +55,9 @@ impl<'a, U: Unit, C: CanObserve<U::Item>, D: DigestHasher> VerifierState<'a, C, 
 
     /// Observes at most `max` scalars that both sides know, after their count.
     ///
-    /// More are refused with [`TranscriptError::BadProofShape`] and `list length exceeds the recorded maximum`,
-    /// whatever the next step is, unless a step was refused before. Nothing is absorbed then. Condition: `U` is an
-    /// alphabet. Not in the Rust crate.
+    /// A longer list is refused with [`TranscriptError::BadProofShape`] and `list length exceeds the recorded maximum`.
+    /// This holds whatever the next step is, unless a step was refused before. Nothing is absorbed then. Condition: `U`
+    /// is an alphabet. Not in the Rust crate.
     pub fn observe_public_scalars_bounded<F: ScalarField, Cdc: Codec<C, F>>(
         &mut self,
         label: Label,
@@ -78,8 +78,8 @@ impl<'a, U: Unit, C: CanObserve<U::Item>, D: DigestHasher> VerifierState<'a, C, 
 
     /// Reads `len` bytes that hide what was sent later, and lends them.
     ///
-    /// Condition: `U` is an alphabet. Bytes that are too long for it are refused with
-    /// [`ChallengerError::TooLong`](p3_challenger_core::ChallengerError::TooLong), and nothing of them is absorbed.
+    /// Condition: `U` is an alphabet. Bytes that are too long for the alphabet are refused with
+    /// [`ChallengerError::TooLong`](p3_challenger_core::ChallengerError::TooLong), and none of them is absorbed.
     pub fn next_salt(&mut self, label: Label, len: usize) -> Result<&'a [u8], TranscriptError>
         requires { U.is_alphabet }
         ensures exact { ReadsOrRefuses C.state (reads.received_bytes Salt label.now
@@ -91,8 +91,8 @@ impl<'a, U: Unit, C: CanObserve<U::Item>, D: DigestHasher> VerifierState<'a, C, 
 
     /// Reads `len` bytes, and lends them.
     ///
-    /// Condition: `U` is an alphabet. Bytes that are too long for it are refused with
-    /// [`ChallengerError::TooLong`](p3_challenger_core::ChallengerError::TooLong), and nothing of them is absorbed.
+    /// Condition: `U` is an alphabet. Bytes that are too long for the alphabet are refused with
+    /// [`ChallengerError::TooLong`](p3_challenger_core::ChallengerError::TooLong), and none of them is absorbed.
     pub fn next_bytes(&mut self, label: Label, len: usize) -> Result<&'a [u8], TranscriptError>
         requires { U.is_alphabet }
         ensures exact { ReadsOrRefuses C.state (reads.received_bytes Message label.now
@@ -104,11 +104,11 @@ impl<'a, U: Unit, C: CanObserve<U::Item>, D: DigestHasher> VerifierState<'a, C, 
 
     /// Reads at most `max` bytes, after their count, and lends them.
     ///
-    /// Nothing is absorbed until all of them are there. A count above `max` is passed, and one that names more bytes
-    /// than are left.
+    /// Nothing is absorbed until all the bytes are there. A refused count is consumed: one above `max`, or one larger
+    /// than the number of bytes left.
     ///
-    /// Condition: `U` is an alphabet. Bytes that are too long for it are refused with
-    /// [`ChallengerError::TooLong`](p3_challenger_core::ChallengerError::TooLong): their count is absorbed then.
+    /// Condition: `U` is an alphabet. Bytes that are too long for the alphabet are refused with
+    /// [`ChallengerError::TooLong`](p3_challenger_core::ChallengerError::TooLong), after their count is absorbed.
     pub fn next_bytes_bounded(
         &mut self,
         label: Label,
@@ -130,9 +130,9 @@ impl<'a, U: Unit, C: CanObserve<U::Item>, D: DigestHasher> VerifierState<'a, C, 
 
     /// Reads at most `max` scalars, after their count.
     ///
-    /// A count above `max` is passed. The count is absorbed before any scalar is read. Where the scalars' encodings
-    /// take more bytes than are left, they are refused before any is read; and the scalars before one that is none are
-    /// absorbed.
+    /// A count above `max` is consumed. The count is absorbed before any scalar is read. If the scalars' encodings take
+    /// more bytes than are left, the step is refused before any scalar is read. If a scalar's bytes are invalid, the
+    /// scalars before it are absorbed.
     ///
     /// Condition: `U` is an alphabet.
     pub fn next_scalars_bounded<F: ScalarField, Cdc: Codec<C, F>>(
@@ -190,7 +190,7 @@ impl<'a, C: Sponge, U, D: DigestHasher> VerifierState<'a, C, U, D> {
         self.observe_element::<F, F, Cdc>(Kind::Public, label, value)
     }
 
-    /// Observes so many scalars as the step says, which both sides know.
+    /// Observes a list of scalars that both sides know, of the length that the step says.
     pub fn observe_public_scalars<F: ScalarField, Cdc: Codec<C, F>>(
         &mut self,
         label: Label,
@@ -204,11 +204,11 @@ impl<'a, C: Sponge, U, D: DigestHasher> VerifierState<'a, C, U, D> {
         self.observe_list::<F, F, Cdc>(Kind::Public, label, values)
     }
 
-    /// Observes so many elements of an extension as the step says, which the proof does not carry.
+    /// Observes a list of elements of an extension that the proof does not carry, of the length that the step says.
     ///
     /// Where the next step has a list of another length, the list is refused with [`TranscriptError::BadProofShape`]
-    /// and `list length differs from the recorded shape`, whatever that step is, unless a step was refused before.
-    /// Nothing is absorbed then.
+    /// and `list length differs from the recorded shape`. This holds whatever that step is, unless a step was refused
+    /// before. Nothing is absorbed then.
     pub fn observe_extensions<
         F: TranscriptField,
         EF: AlgebraIdentity<F> + Named,
@@ -237,8 +237,8 @@ impl<'a, C: Sponge, U, D: DigestHasher> VerifierState<'a, C, U, D> {
 
     /// Reads `n` scalars.
     ///
-    /// Where their encodings take more bytes than are left, they are refused before any is read. The scalars before one
-    /// that is none are absorbed.
+    /// If their encodings take more bytes than are left, the step is refused before any scalar is read. If a scalar's
+    /// bytes are invalid, the scalars before it are absorbed.
     pub fn next_scalars<F: ScalarField, Cdc: Codec<C, F>>(
         &mut self,
         label: Label,
@@ -269,7 +269,7 @@ impl<'a, C: Sponge, U, D: DigestHasher> VerifierState<'a, C, U, D> {
         self.receive::<F, EF, ExtensionFieldCodec<F, EF, Cdc>>(label)
     }
 
-    /// Reads `len` bytes in which the challenger takes no part, and lends them. It takes no memory.
+    /// Reads `len` bytes that the challenger does not observe, and lends them. This call takes no memory.
     pub fn next_hint(&mut self, label: Label, len: usize) -> Result<&'a [u8], TranscriptError>
         ensures exact { ReadsOrRefuses C.state (reads.hint_received {Symbol = C.Symbol} label.now
             len) self.old (λ b. b.now) result self.new }
@@ -283,10 +283,10 @@ impl<'a, C: Sponge, U, D: DigestHasher> VerifierState<'a, C, U, D> {
         Ok(bytes)
     }
 
-    /// Reads at most `max` bytes, after their count, in which the challenger takes no part, and lends them. It takes no
-    /// memory.
+    /// Reads at most `max` bytes that the challenger does not observe, after their count, and lends them. This call
+    /// takes no memory.
     ///
-    /// A count above `max` is passed, and one that names more bytes than are left.
+    /// A refused count is consumed: one above `max`, or one larger than the number of bytes left.
     pub fn next_hint_bounded(
         &mut self,
         label: Label,

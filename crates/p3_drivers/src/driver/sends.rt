@@ -1,4 +1,4 @@
-//! The steps of a prover that write into the proof, and those that add what both sides know.
+//! The prover's steps that write into the proof, and those that observe values known to both sides.
 ghost use Rattle.std.specs.Prelude.{◌≡◌, ◌≤◌, length, IfOk, vec_len};
 ghost use Rattle.p3_driver_core.specs.Bound.{bound_value, bound_values};
 ghost use Rattle.p3_driver_core.specs.Meanings as meaning;
@@ -17,10 +17,10 @@ use p3_fs_core::{Declared, Kind, Label, Length, TranscriptError, TranscriptField
 use p3_symmetric::DigestHasher;
 
 impl<U: Unit, C: CanObserve<U::Item>, D: DigestHasher> ProverState<C, U, D> {
-    /// Observes at most `max` elements of an extension, after their count, which the proof does not carry.
+    /// Observes at most `max` elements of an extension that the proof does not carry, after their count.
     ///
-    /// More are refused with [`PatternError::OverCap`](p3_fs_core::PatternError::OverCap), with nothing done.
-    /// Condition: `U` is an alphabet.
+    /// A longer list is refused with [`PatternError::OverCap`](p3_fs_core::PatternError::OverCap), and nothing is
+    /// done. Condition: `U` is an alphabet.
     pub fn observe_extensions_bounded<
         F: TranscriptField,
         EF: AlgebraIdentity<F> + Named,
@@ -50,8 +50,8 @@ impl<U: Unit, C: CanObserve<U::Item>, D: DigestHasher> ProverState<C, U, D> {
 
     /// Observes at most `max` scalars that both sides know, after their count.
     ///
-    /// More are refused with [`PatternError::OverCap`](p3_fs_core::PatternError::OverCap), with nothing done.
-    /// Condition: `U` is an alphabet. Not in the Rust crate.
+    /// A longer list is refused with [`PatternError::OverCap`](p3_fs_core::PatternError::OverCap), and nothing is
+    /// done. Condition: `U` is an alphabet. Not in the Rust crate.
     pub fn add_public_scalars_bounded<F: ScalarField, Cdc: Codec<C, F>>(
         &mut self,
         label: Label,
@@ -72,8 +72,8 @@ impl<U: Unit, C: CanObserve<U::Item>, D: DigestHasher> ProverState<C, U, D> {
 
     /// Sends bytes that hide what is sent later.
     ///
-    /// Condition: `U` is an alphabet. Bytes that are too long for it are refused with
-    /// [`ChallengerError::TooLong`](p3_challenger_core::ChallengerError::TooLong), and nothing of them is absorbed.
+    /// Condition: `U` is an alphabet. Bytes that are too long for the alphabet are refused with
+    /// [`ChallengerError::TooLong`](p3_challenger_core::ChallengerError::TooLong), and none of them is absorbed.
     pub fn add_salt(&mut self, label: Label, bytes: &[u8]) -> Result<(), TranscriptError>
         requires { U.is_alphabet }
         ensures { AddsOrRefuses C.state (meaning.sent_bytes Salt label.now
@@ -82,10 +82,10 @@ impl<U: Unit, C: CanObserve<U::Item>, D: DigestHasher> ProverState<C, U, D> {
         self.send_bytes(Kind::Salt, label, bytes)
     }
 
-    /// Sends so many bytes as the step says.
+    /// Sends bytes, as many as the step says.
     ///
-    /// Condition: `U` is an alphabet. Bytes that are too long for it are refused with
-    /// [`ChallengerError::TooLong`](p3_challenger_core::ChallengerError::TooLong), and nothing of them is absorbed.
+    /// Condition: `U` is an alphabet. Bytes that are too long for the alphabet are refused with
+    /// [`ChallengerError::TooLong`](p3_challenger_core::ChallengerError::TooLong), and none of them is absorbed.
     pub fn add_bytes(&mut self, label: Label, bytes: &[u8]) -> Result<(), TranscriptError>
         requires { U.is_alphabet }
         ensures { AddsOrRefuses C.state (meaning.sent_bytes Message label.now
@@ -96,9 +96,9 @@ impl<U: Unit, C: CanObserve<U::Item>, D: DigestHasher> ProverState<C, U, D> {
 
     /// Sends at most `max` bytes, after their count.
     ///
-    /// More are refused with [`PatternError::OverCap`](p3_fs_core::PatternError::OverCap), with nothing done.
-    /// Condition: `U` is an alphabet. Bytes that are too long for it are refused with
-    /// [`ChallengerError::TooLong`](p3_challenger_core::ChallengerError::TooLong): their count is absorbed then.
+    /// More bytes are refused with [`PatternError::OverCap`](p3_fs_core::PatternError::OverCap), and nothing is
+    /// done. Condition: `U` is an alphabet. Bytes that are too long for the alphabet are refused with
+    /// [`ChallengerError::TooLong`](p3_challenger_core::ChallengerError::TooLong), after their count is absorbed.
     pub fn add_bytes_bounded(
         &mut self,
         label: Label,
@@ -116,8 +116,8 @@ impl<U: Unit, C: CanObserve<U::Item>, D: DigestHasher> ProverState<C, U, D> {
 
     /// Sends at most `max` scalars, after their count.
     ///
-    /// More are refused with [`PatternError::OverCap`](p3_fs_core::PatternError::OverCap), with nothing done.
-    /// Condition: `U` is an alphabet.
+    /// More scalars are refused with [`PatternError::OverCap`](p3_fs_core::PatternError::OverCap), and nothing is
+    /// done. Condition: `U` is an alphabet.
     pub fn add_scalars_bounded<F: ScalarField, Cdc: Codec<C, F>>(
         &mut self,
         label: Label,
@@ -216,7 +216,7 @@ impl<C: Sponge, U, D: DigestHasher> ProverState<C, U, D> {
         self.observe_element::<F, F, Cdc>(Kind::Public, label, value)
     }
 
-    /// Observes so many scalars as the step says, which both sides know.
+    /// Observes a list of scalars that both sides know, of the length that the step says.
     pub fn add_public_scalars<F: ScalarField, Cdc: Codec<C, F>>(
         &mut self,
         label: Label,
@@ -230,7 +230,7 @@ impl<C: Sponge, U, D: DigestHasher> ProverState<C, U, D> {
         self.observe_list::<F, F, Cdc>(Kind::Public, label, values)
     }
 
-    /// Observes so many elements of an extension as the step says, which the proof does not carry.
+    /// Observes a list of elements of an extension that the proof does not carry, of the length that the step says.
     pub fn observe_extensions<
         F: TranscriptField,
         EF: AlgebraIdentity<F> + Named,
@@ -258,7 +258,7 @@ impl<C: Sponge, U, D: DigestHasher> ProverState<C, U, D> {
         self.send::<F, F, Cdc>(label, value)
     }
 
-    /// Sends so many scalars as the step says.
+    /// Sends scalars, as many as the step says.
     #[tactic(auto, using(crate::proofs::Pieces::unwritten))]
     pub fn add_scalars<F: ScalarField, Cdc: Codec<C, F>>(
         &mut self,
@@ -292,7 +292,7 @@ impl<C: Sponge, U, D: DigestHasher> ProverState<C, U, D> {
         self.send::<F, EF, ExtensionFieldCodec<F, EF, Cdc>>(label, value)
     }
 
-    /// Sends so many bytes as the step says, in which the challenger takes no part.
+    /// Sends bytes that the challenger does not observe, as many as the step says.
     pub fn add_hint(&mut self, label: Label, bytes: &[u8]) -> Result<(), TranscriptError>
         ensures { AddsOrRefuses C.state (meaning.hinted {Symbol = C.Symbol} label.now bytes.now)
             self.old (λ _. bytes.now) result self.new }
@@ -304,9 +304,10 @@ impl<C: Sponge, U, D: DigestHasher> ProverState<C, U, D> {
         Ok(())
     }
 
-    /// Sends at most `max` bytes, after their count, in which the challenger takes no part.
+    /// Sends at most `max` bytes that the challenger does not observe, after their count.
     ///
-    /// More are refused with [`PatternError::OverCap`](p3_fs_core::PatternError::OverCap), with nothing done.
+    /// More bytes are refused with [`PatternError::OverCap`](p3_fs_core::PatternError::OverCap), and nothing is
+    /// done.
     pub fn add_hint_bounded(
         &mut self,
         label: Label,

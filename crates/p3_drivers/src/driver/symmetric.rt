@@ -1,4 +1,4 @@
-//! The steps that both drivers play alike, for code that plays either side.
+//! The steps with one name on both sides, for code that plays either side.
 ghost use Rattle.p3_drivers.specs.Drivers.{driving_of};
 
 use crate::DriverState;

@@ -1,4 +1,4 @@
-//! The steps that are a proof of work: a prover searches for a witness, and a verifier checks it.
+//! The steps of proof of work: a prover searches for a witness, and a verifier checks it.
 ghost use Rattle.std.specs.Prelude.{◌≡◌, ◌≤◌};
 ghost use Rattle.p3_driver_core.specs.{Proving.{GrindsAndWrites, GrindsAndKeeps}, Reads.AnswersRead};
 ghost use Rattle.p3_driver_core.specs.{Verifying.{ReceivesWork, ChecksAndKeeps}, Working.work_of};
@@ -18,11 +18,11 @@ impl<C: GrindingChallenger, U, D: DigestHasher> ProverState<C, U, D> {
     /// check leaves it. With 0 bits each witness passes, and 0 is sent.
     ///
     /// Where no witness passes, the step is refused with
-    /// [`ChallengerError::NoWitness`](p3_challenger_core::ChallengerError::NoWitness): the challenger is as it was, and
-    /// nothing is written. So it is too where the search is refused memory, with [`TranscriptError::OutOfMemory`].
-    /// Where the proof is refused memory for the witness, with the same error, the challenger is as the witness's check
-    /// leaves it, and a beginning of the witness's bytes is written. Condition: `bits` is at most
-    /// [`max_bits`](p3_challenger_core::CanSampleBits::max_bits).
+    /// [`ChallengerError::NoWitness`](p3_challenger_core::ChallengerError::NoWitness). Where the search is refused
+    /// memory, it is refused with [`TranscriptError::OutOfMemory`]. In both cases the challenger is as it was, and
+    /// nothing is written. [`TranscriptError::OutOfMemory`] comes too where the proof is refused memory for the
+    /// witness. Then the challenger is as the witness's check leaves it, and a prefix of the witness's bytes is
+    /// written. Condition: `bits` is at most [`max_bits`](p3_challenger_core::CanSampleBits::max_bits).
     pub fn pow(&mut self, label: Label, bits: usize) -> Result<(), TranscriptError>
     where
         C::Witness: AlgebraIdentity<C::Witness> + Named,
@@ -41,11 +41,11 @@ impl<C: GrindingChallenger, U, D: DigestHasher> ProverState<C, U, D> {
         Ok(())
     }
 
-    /// Searches for the least witness that passes a check of `bits` bits, and answers it: the proof does not carry it.
-    /// The challenger is left as that check leaves it. With 0 bits each witness passes, and the answer is 0.
+    /// Searches for the least witness that passes a check of `bits` bits, and returns it; the proof does not carry it.
+    /// The challenger is left as that check leaves it. With 0 bits each witness passes, and the result is 0.
     ///
-    /// The errors and the condition are those of [`pow`](ProverState::pow), but that nothing is written: with each
-    /// error the challenger is as it was.
+    /// The errors and the condition are those of [`pow`](ProverState::pow), but nothing is written. After each error
+    /// the challenger is as it was.
     pub fn observe_pow(&mut self, label: Label, bits: usize) -> Result<C::Witness, TranscriptError>
     where
         C::Witness: AlgebraIdentity<C::Witness> + Named,
@@ -64,12 +64,12 @@ impl<C: GrindingChallenger, U, D: DigestHasher> ProverState<C, U, D> {
 }
 
 impl<C: GrindingChallenger, U, D: DigestHasher> VerifierState<'_, C, U, D> {
-    /// Reads a witness, and checks it: `bits` bits are 0 that are drawn after it. With 0 bits each witness passes,
-    /// and is read all the same.
+    /// Reads a witness and checks that the next `bits` bits drawn are 0. With 0 bits each witness passes, and is still
+    /// read.
     ///
     /// Where too few bits are 0, the step is refused with [`TranscriptError::BadProofShape`] and `pow witness does not
-    /// produce enough zero bits`: the check is done then. Bytes that encode no witness are passed.
-    /// [`TranscriptError::OutOfMemory`] comes only where the check is refused memory: the witness is read then, and the
+    /// produce enough zero bits`, after the check. Bytes that encode no witness are consumed.
+    /// [`TranscriptError::OutOfMemory`] comes only where the check is refused memory. Then the witness is read, and the
     /// challenger is as that check leaves it. Condition: `bits` is at most
     /// [`max_bits`](p3_challenger_core::CanSampleBits::max_bits).
     pub fn check_pow(&mut self, label: Label, bits: usize) -> Result<(), TranscriptError>
@@ -90,8 +90,7 @@ impl<C: GrindingChallenger, U, D: DigestHasher> VerifierState<'_, C, U, D> {
         Ok(())
     }
 
-    /// Checks a witness that the caller carries: `bits` bits are 0 that are drawn after it. With 0 bits each witness
-    /// passes.
+    /// Checks a witness that the caller carries: the next `bits` bits drawn are 0. With 0 bits each witness passes.
     ///
     /// Where too few bits are 0, or the check is refused memory, the step is refused as by
     /// [`check_pow`](VerifierState::check_pow). Condition: `bits` is at most

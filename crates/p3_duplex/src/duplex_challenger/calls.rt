@@ -1,4 +1,4 @@
-//! What each method is as a list of calls: of the call-by-call definition that `follows_segments` speaks of.
+//! Each method as a list of calls in the call-by-call definition that `follows_segments` speaks of.
 ghost use Rattle.std.specs.Prelude.{◌≡◌, ◌<◌, ◌≤◌, ◌^◌, ◌%◌, ◌==◌, ◌++◌, ℕ, suc, Bool, List, [], ◌∷◌, Some, map};
 ghost use Rattle.std.specs.{Prelude.replicate, List.{flat_map, range_with_len}};
 ghost use Rattle.p3_symmetric.specs.Digests.{values_of};
@@ -19,8 +19,8 @@ impl<
     const WIDTH: usize,
     const RATE: usize,
 > DuplexChallenger<F, P, WIDTH, RATE> {
-    /// Whatever is observed, each of its values is, in order: those of an array, of a digest, of the roots of a cap one
-    /// after another, of lists in a list.
+    /// Each value of an observation is observed, in order. The values are those of an array, of a digest, of the roots
+    /// of a cap, or of lists in a list.
     ///
     /// A law: the body is empty, and a caller cites the clauses.
     pub fn observes_are_calls<'a, M, const N: usize>()
@@ -37,8 +37,8 @@ impl<
             (λ lists. flat_map (λ list. list.items) lists.items) }
     {}
 
-    /// Symbols that are fed, as values and steps of a transcript feed them, are observed one after another; and the
-    /// smallest draws in a row are as many draws.
+    /// Symbols fed by values and steps of a transcript are observed one after another. Smallest draws in a row are as
+    /// many draws.
     ///
     /// A law: the body is empty, and a caller cites the clauses.
     pub fn symbols_are_calls()
@@ -48,8 +48,8 @@ impl<
             ≡ after_calls F.residues P.permutation RATE c (replicate n draw) }
     {}
 
-    /// An element of a space of some dimension is as many draws, whose answers are its coefficients, coefficient 0
-    /// first; a number of some bits is the low bits of one draw; and the digest is that of the calls before it.
+    /// An element of a space is one draw for each coefficient, coefficient 0 first. A number of bits is the low bits of
+    /// one draw. The digest is that of the calls before it.
     ///
     /// A law: the body is empty, and a caller cites the clauses.
     pub fn draws_are_calls<A: BasedVectorSpace<F>>()
@@ -68,8 +68,8 @@ impl<
             ≡ (run_to_digest F.residues P.permutation RATE c []).after }
     {}
 
-    /// After a value that is observed, and more values, draw `k` answers output `k` of the cells that they leave when
-    /// all of them are absorbed, whatever was left or pending before.
+    /// After an observed value, and perhaps more, draw `k` gives output `k` of the cells once all values are absorbed.
+    /// Outputs left and values pending before do not matter.
     ///
     /// A law: the body does nothing, and a caller cites the clause.
     pub fn draws_have_places(&self)
@@ -83,8 +83,8 @@ impl<
         let _ = &self.outputs_left;
     }
 
-    /// A check of a witness by at least one bit observes it and draws once, and passes where the low bits are 0; a
-    /// check by no bits does nothing, and passes.
+    /// A check of a witness by at least one bit observes it and draws once, and passes where the low bits are 0. A
+    /// check by 0 bits does nothing, and passes.
     ///
     /// A law: the body is empty, and a caller cites the clauses.
     pub fn checks_are_calls()
@@ -109,8 +109,8 @@ impl<
     const WIDTH: usize,
     const RATE: usize,
 > DuplexChallenger<F, P, WIDTH, RATE> {
-    /// A draw of no uniform bits draws nothing; one of as many as one element serves for is that of one element; and
-    /// one of more is two, the low half first, each with a bound and a draw limit of its own.
+    /// A draw of 0 uniform bits draws nothing. A draw takes one element if that suffices for the bits. A draw of more
+    /// bits is two draws, low half first, each with a bound and a draw limit of its own.
     ///
     /// A law: the body is empty, and a caller cites the clauses.
     pub fn uniform_draws_have_parts()

@@ -1,5 +1,4 @@
-//! What a duplex challenger observes beside single values and arrays: digests, caps and lists of
-//! lists, each value by value. None of it is ever refused.
+//! Observations of digests, caps and lists of lists, value by value. None of them is ever refused.
 ghost use Rattle.std.specs.{Prelude.{◌≡◌, refl}, List.flat_map};
 ghost use Rattle.p3_challenger_core.specs.Observation.{observed_all, ObservesSame, unrefused_observe};
 ghost use Rattle.p3_duplex.specs.{DuplexState.fed_parts, DuplexStateLaws.{is_observation, parts-are_observation}};
@@ -18,8 +17,7 @@ impl<
     const WIDTH: usize,
     const RATE: usize,
 > DuplexChallenger<F, P, WIDTH, RATE> {
-    /// A cap that is lent is observed as its contents are, the cap itself: it feeds the same symbols, and leaves
-    /// the same state.
+    /// A borrowed cap is observed like the cap itself: it feeds the same symbols, and leaves the same state.
     ///
     /// A law: the body is empty, and a caller cites the clauses.
     pub fn lent_caps_are_caps<'a, M, const N: usize>()

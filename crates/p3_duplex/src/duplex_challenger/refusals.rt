@@ -1,4 +1,4 @@
-//! Laws: what is never refused.
+//! Laws on the calls that are never refused.
 ghost use Rattle.std.specs.Prelude.{ℕ, Bool, false};
 ghost use Rattle.p3_challenger_core.specs.Sampling.{RefusesDraw};
 ghost use Rattle.p3_grinding.specs.Checks.{bits_check, uniform_check};
@@ -23,14 +23,14 @@ impl<
         ensures { IsNeverRefused ⟦<Self as CanObserve<F>>⟧.observation }
     {}
 
-    /// Draws are never refused, whatever is drawn: no number of them leaves any challenger with an error.
+    /// Draws of elements of a vector space are never refused: no number of them leaves any challenger with an error.
     ///
     /// A law: the body is empty, and a caller cites the clause.
     pub fn draws_are_not_refused<A: BasedVectorSpace<F>>()
         ensures { IsUnrefusedDraw ⟦<Self as CanSample<A>>⟧.sampling }
     {}
 
-    /// Nor are draws of bits.
+    /// Draws of bits are never refused.
     ///
     /// A law: the body is empty, and a caller cites the clause.
     pub fn bit_draws_are_not_refused()
@@ -39,7 +39,7 @@ impl<
     {}
 
     /// Observations of arrays, digests, caps and lists of lists are never refused: no list of them leaves any
-    /// challenger with an error. A slice of them leaves, by the law `slice_leaves` of [`CanObserve`], what such a list
+    /// challenger with an error. By the law `slice_leaves` of [`CanObserve`], a slice of them leaves what such a list
     /// leaves.
     ///
     /// A law: the body is empty, and a caller cites the clauses.
@@ -50,8 +50,7 @@ impl<
         ensures lists { IsNeverRefused ⟦<Self as CanObserve<Vec<Vec<F>>>>⟧.observation }
     {}
 
-    /// Checks of witnesses are never refused, whatever number of bits they test: they take no memory, and meet no
-    /// limit.
+    /// Checks of witnesses are never refused, for any number of bits: they take no memory, and meet no limit.
     ///
     /// A law: the body is empty, and a caller cites the clause.
     pub fn checks_are_not_refused()
@@ -67,8 +66,8 @@ impl<
     const WIDTH: usize,
     const RATE: usize,
 > DuplexChallenger<F, P, WIDTH, RATE> {
-    /// Checks of witnesses by uniform bits take no memory, and those that draw no other value in the place of a
-    /// rejected one are never refused.
+    /// Checks of witnesses by uniform bits take no memory, and those that do not replace a rejected value are never
+    /// refused.
     ///
     /// A law: the body is empty, and a caller cites the clauses.
     pub fn uniform_checks_take_no_memory()

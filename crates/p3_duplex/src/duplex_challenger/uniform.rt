@@ -1,5 +1,5 @@
-//! Uniform bits, drawn from a duplex challenger: the low bits of elements that are below the bound of the field for so
-//! many bits. As few bits as one element serves for are drawn from one, and more of them in two halves.
+//! Uniform bits, drawn from a duplex challenger: the low bits of elements below the bound of the field for so many
+//! bits. If one element suffices, the bits are drawn from one, and else in two halves.
 ghost use Rattle.std.specs.Prelude.{◌≡◌, ◌<◌, ◌≤◌, ◌^◌, ◌/◌, ℕ, Bool, true, false, Some, IfOk, MatchResult};
 ghost use Rattle.std.specs.Option.{option_map};
 ghost use Rattle.p3_field_core.specs.UniformBounds.{uniform_bound};
@@ -22,9 +22,9 @@ impl<
     const WIDTH: usize,
     const RATE: usize,
 > DuplexChallenger<F, P, WIDTH, RATE> {
-    /// Bits that are drawn from one element have no bias: they are the low bits of the element that is taken, which is
-    /// below the bound for so many, and each value of the bits is that of as many of the elements below the bound as
-    /// the bound has multiples of `2^bits`. At least one bit is asked for, and as many as one element serves for.
+    /// Bits drawn from one element have no bias: they are the low bits of the taken element, which is below the bound
+    /// for them. Each value of the bits comes from equally many elements below the bound: the bound divided by
+    /// `2^bits`. The law speaks of at least one bit, where one element suffices.
     ///
     /// A law: the body is empty, and a caller cites the clauses.
     pub fn uniform_bits_have_no_bias()
@@ -40,8 +40,7 @@ impl<
             ≡ uniform_bound F.residues.order bits / 2 ^ bits }
     {}
 
-    /// Draws of uniform bits take no memory, and those that draw no other value in the place of a rejected one meet no
-    /// limit.
+    /// Draws of uniform bits take no memory, and those that do not replace a rejected value meet no limit.
     ///
     /// A law: the body is empty, and a caller cites the clauses.
     pub fn uniform_draws_take_no_memory()
@@ -51,10 +50,10 @@ impl<
             ¬ ((⟦<Self as CanSampleUniformBits<F>>⟧.uniform false bits).draw.meets_limit c) }
     {}
 
-    /// Where another value may be drawn in the place of a rejected one, a draw gives nothing exactly where each of as
-    /// many elements as the draw limit allows is drawn and is not below the bound. There, and nowhere else, it meets
-    /// the limit, and the challenger stands after just so many draws. So it is of as many bits as one element serves
-    /// for, at least one, and of each half of more of them, which are drawn as
+    /// Draw limits are met exactly, where a rejected value is replaced. A draw has no result exactly where it draws as
+    /// many elements as the draw limit allows, and none is below the bound. There, and nowhere else, it meets the
+    /// limit, and the challenger is left after just those draws. This holds for at least one bit where one element
+    /// suffices. It also holds for each half of more bits, as
     /// [`uniform_draws_have_parts`](DuplexChallenger::uniform_draws_have_parts) says.
     ///
     /// A law: the body is empty, and a caller cites the clauses.

@@ -1,4 +1,4 @@
-//! How a product of 128 bits is reduced without a division: 2^64 is 2^32 - 1 modulo the order, and 2^96 is -1.
+//! Reduction of a product of 128 bits without division: modulo the order, 2^64 is 2^32 - 1, and 2^96 is -1.
 ghost use Rattle.std.specs.Prelude.{◌≡◌, ◌+◌, ◌*◌, ◌%◌, ◌^◌, ◌<◌};
 ghost use Rattle.p3_goldilocks.specs.GoldilocksResidues.{order};
 

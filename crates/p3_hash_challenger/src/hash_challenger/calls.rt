@@ -1,4 +1,4 @@
-//! What each method is as a list of calls: of the call-by-call definition that `follows_segments` speaks of.
+//! Each method as a list of calls in the call-by-call definition that `follows_segments` speaks of.
 ghost use Rattle.std.specs.{Prelude.{◌≡◌, ◌+◌, ◌++◌, ℕ, List, [], ◌∷◌, Some, map, replicate}, List.flat_map};
 ghost use Rattle.std.specs.List.{range_with_len};
 ghost use Rattle.p3_symmetric.specs.Digests.{values_of};
@@ -16,8 +16,8 @@ impl<T: Copy, H: CryptographicHasher<T, [T; OUT_LEN]>, const OUT_LEN: usize> Has
     H,
     OUT_LEN,
 > {
-    /// Whatever is observed, each of its values is, in order: those of an array, of a digest, of the roots of a cap one
-    /// after another, of lists in a list. An array of no places is a call of its own, and drops the outputs.
+    /// Each value of an observation is observed, in order. The values are those of an array, of a digest, of the
+    /// roots of a cap, or of lists in a list. An empty array is a call of its own, which drops the outputs.
     ///
     /// A law: the body is empty, and a caller cites the clauses.
     pub fn observes_are_calls<F, const N: usize>()
@@ -35,8 +35,8 @@ impl<T: Copy, H: CryptographicHasher<T, [T; OUT_LEN]>, const OUT_LEN: usize> Has
             (λ lists. map observe (flat_map (λ list. list.items) lists.items)) }
     {}
 
-    /// Symbols that are fed, as values and steps of a transcript feed them, are observed one after another; and the
-    /// smallest draws in a row are as many draws.
+    /// Symbols fed by values and steps of a transcript are observed one after another. Smallest draws in a row are as
+    /// many draws.
     ///
     /// A law: the body is empty, and a caller cites the clauses.
     pub fn symbols_are_calls()
@@ -59,8 +59,8 @@ impl<T: Copy, H: CryptographicHasher<T, [T; OUT_LEN]>, const OUT_LEN: usize> Has
             ≡ (run_to_digest (function_of H.hash OUT_LEN H.filler) s []).after }
     {}
 
-    /// After a value that is observed, and more values, draw `k` answers output `OUT_LEN + k` of the chain, which is
-    /// what was pending and then the values; and so it does after an array of no places, of what was pending.
+    /// After an observed value, and perhaps more, draw `k` gives output `OUT_LEN + k` of the chain of the pending
+    /// values and the observed ones. The same holds after an empty array, for the chain of the pending values.
     ///
     /// A law: the body does nothing, and a caller cites the clauses.
     pub fn draws_have_places(&self)

@@ -1,5 +1,5 @@
-//! What a hash challenger observes beside single values and arrays: digests, caps and lists of lists.
-//! Each feeds its values in order, by one call a digest or a list.
+//! Observations of digests, caps and lists of lists. Each feeds its values in order, by one call for each digest
+//! or list.
 ghost use Rattle.std.specs.{Prelude.{◌≡◌, OnOk, IfErr}, List.flat_map};
 ghost use Rattle.p3_challenger_core.specs.Observation.{RefusesObserve, LeavesBeginning, observed_all, ObservesSame};
 ghost use Rattle.p3_symmetric.specs.Digests.{values_of};
@@ -16,8 +16,7 @@ impl<T: Copy, H: CryptographicHasher<T, [T; OUT_LEN]>, const OUT_LEN: usize> Has
     H,
     OUT_LEN,
 > {
-    /// A cap that is lent is observed as its contents are, the cap itself: it feeds the same symbols, and leaves
-    /// the same state.
+    /// A borrowed cap is observed like the cap itself: it feeds the same symbols, and leaves the same state.
     ///
     /// A law: the body is empty, and a caller cites the clauses.
     pub fn lent_caps_are_caps<'a, F, const N: usize>()

@@ -1,4 +1,4 @@
-//! Proof of work on bytes: the messages of candidates are hashed batch by batch, where one digest tests a candidate.
+//! Proof of work on bytes: candidates are hashed in batches where one digest is enough to test a candidate.
 use super::witness_search::least_in_batches;
 use crate::HashChallenger;
 use p3_challenger_core::ChallengerError;

@@ -1,8 +1,8 @@
 //! A search for a witness that hashes as many candidates at once as the hasher has lanes.
 //!
-//! The message of a candidate is what is pending and then its bytes. The messages of a batch stand one
-//! after another in one buffer, which is made once: from batch to batch the candidates' bytes alone are
-//! written.
+//! The message of a candidate is the pending values followed by the candidate's bytes. The messages of a
+//! batch stand one after another in one buffer, which is allocated once. From batch to batch only the
+//! candidates' bytes are written.
 ghost use Rattle.std.specs.Prelude.{◌≡◌, ◌<◌, ◌≤◌, ◌+◌, ◌*◌, ◌^◌, ℕ, length, IfOk, IfErr};
 ghost use Rattle.p3_challenger_core.specs.declared.error.ChallengerError.TheVariants.{OutOfMemory};
 ghost use Rattle.p3_grinding.specs.Checks.{Finds};
@@ -15,9 +15,9 @@ use p3_grinding::ByteCandidates;
 use p3_symmetric::CryptographicHasher;
 use std::alloc::{AllocError, Global};
 
-/// The least candidate below `num_candidates` that passes, or `None` where none does.
+/// Returns the least candidate below `num_candidates` that passes, or `None` where none does.
 ///
-/// The one error is [`ChallengerError::OutOfMemory`]: all memory is asked for before the first candidate.
+/// The one error is [`ChallengerError::OutOfMemory`]: all memory is allocated before the first candidate.
 pub(super) fn least_in_batches<
     H: CryptographicHasher<u8, [u8; OUT_LEN]>,
     K: ByteCandidates<W, S>,

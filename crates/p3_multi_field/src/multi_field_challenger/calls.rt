@@ -1,4 +1,4 @@
-//! What each method is as a list of calls: of the call-by-call definition that `follows_segments` speaks of.
+//! Each method as a list of calls in the call-by-call definition that `follows_segments` speaks of.
 ghost use Rattle.std.specs.Prelude.{◌≡◌, ◌^◌, ◌%◌, ◌==◌, ℕ, suc, Bool, List, [], ◌∷◌, Some, map, replicate};
 ghost use Rattle.std.specs.List.{flat_map};
 ghost use Rattle.p3_symmetric.specs.Digests.{values_of};
@@ -21,8 +21,8 @@ impl<
     const WIDTH: usize,
     const RATE: usize,
 > MultiField32Challenger<F, PF, P, WIDTH, RATE> {
-    /// Whatever is observed, each of its symbols is, in order: each scalar of an array, and of the lists in a list; a
-    /// digest at once; and each root of a cap as a digest.
+    /// Each symbol of an observation is observed, in order. Each scalar of an array and of lists in a list is a symbol.
+    /// So is a digest, and each root of a cap as a digest.
     ///
     /// A law: the body is empty, and a caller cites the clauses.
     pub fn observes_are_calls<const N: usize>()
@@ -42,8 +42,8 @@ impl<
             (λ cap. map observe (map digest cap)) }
     {}
 
-    /// Symbols that are fed, as values and steps of a transcript feed them, are observed one after another; and the
-    /// smallest draws in a row are as many draws.
+    /// Symbols fed by values and steps of a transcript are observed one after another. Smallest draws in a row are as
+    /// many draws.
     ///
     /// A law: the body is empty, and a caller cites the clauses.
     pub fn symbols_are_calls()
@@ -54,8 +54,8 @@ impl<
             ⟦<PF as HasFieldPair<F>>⟧.field_pair P.permutation RATE c (replicate n draw) }
     {}
 
-    /// An element of a space of some dimension is as many draws, whose answers are its coefficients, coefficient 0
-    /// first; a number of some bits is the low bits of one draw; and the digest is that of the calls before it.
+    /// An element of a space is one draw for each coefficient, coefficient 0 first. A number of bits is the low bits of
+    /// one draw. The digest is that of the calls before it.
     ///
     /// A law: the body is empty, and a caller cites the clauses.
     pub fn draws_are_calls<A: BasedVectorSpace<F>>()
@@ -76,8 +76,8 @@ impl<
             ≡ (run_to_digest ⟦<PF as HasFieldPair<F>>⟧.field_pair P.permutation RATE c []).after }
     {}
 
-    /// After scalars that are observed, at least one, draw `k` answers output `k` of the cells that they leave when all
-    /// of them are absorbed, whatever was left or pending before; and so it does after a digest with at least one word.
+    /// After at least one observed scalar, draw `k` gives output `k` of the cells once all scalars are absorbed,
+    /// whatever was left or pending before. The same holds after a digest with at least one word.
     ///
     /// A law: the body does nothing, and a caller cites the clauses.
     pub fn draws_have_places(&self)
@@ -91,8 +91,8 @@ impl<
         let _ = &self.outputs_left;
     }
 
-    /// A check of a witness by at least one bit observes it and draws once, and passes where the low bits are 0; a
-    /// check by no bits passes and does nothing.
+    /// A check of a witness by at least one bit observes it and draws once, and passes where the low bits are 0. A
+    /// check by 0 bits passes and does nothing.
     ///
     /// A law: the body is empty, and a caller cites the clauses.
     pub fn checks_are_calls()

@@ -1,5 +1,4 @@
-//! What a multi-field challenger observes beside single scalars: arrays and lists of lists of scalars, digests and
-//! caps. None of it is ever refused.
+//! Observations of arrays and lists of lists of scalars, of digests and of caps. None of them is ever refused.
 ghost use Rattle.std.specs.{Prelude.{◌≡◌, ◌≤◌, [], length, map, ◌∷◌, refl}, List.flat_map};
 ghost use Rattle.p3_challenger_core.specs.Observation.{observed_all, ObservesSame, unrefused_observe};
 ghost use Rattle.p3_sponge.specs.{Cells.overwritten, SpongeCalls.permuting};
@@ -23,8 +22,7 @@ impl<
     const WIDTH: usize,
     const RATE: usize,
 > MultiField32Challenger<F, PF, P, WIDTH, RATE> {
-    /// A cap that is lent is observed as its contents are, the cap itself: it feeds the same symbols, and leaves
-    /// the same state.
+    /// A borrowed cap is observed like the cap itself: it feeds the same symbols, and leaves the same state.
     ///
     /// A law: the body is empty, and a caller cites the clauses.
     pub fn lent_caps_are_caps<'a, const N: usize>()

@@ -1,4 +1,4 @@
-//! Cells of a greater field that scalars are packed into, and that digits are drawn from.
+//! Cells of a larger field, into which scalars are packed and from which digits are drawn.
 ghost use Rattle.std.specs.Prelude.{◌≡◌, ◌/◌, ◌<◌, length};
 ghost use Rattle.p3_sponge.specs.SpongeCalls.{permutation_input};
 ghost use Rattle.p3_multi_field.specs.MultiFieldCalls.{packed_cells, scalars_over, digit_in_row, scalars_rule};

@@ -1,4 +1,4 @@
-//! Laws: what is never refused.
+//! Laws on the calls that are never refused.
 ghost use Rattle.std.specs.Prelude.{ℕ};
 ghost use Rattle.p3_challenger_core.specs.Sampling.{RefusesDraw};
 ghost use Rattle.p3_grinding.specs.Checks.{bits_check};
@@ -25,14 +25,14 @@ impl<
         ensures { IsNeverRefused ⟦<Self as CanObserve<F>>⟧.observation }
     {}
 
-    /// Draws are never refused, whatever is drawn: no number of them leaves any challenger with an error.
+    /// Draws of elements of a vector space are never refused: no number of them leaves any challenger with an error.
     ///
     /// A law: the body is empty, and a caller cites the clause.
     pub fn draws_are_not_refused<A: BasedVectorSpace<F>>()
         ensures { IsUnrefusedDraw ⟦<Self as CanSample<A>>⟧.sampling }
     {}
 
-    /// Nor are draws of bits.
+    /// Draws of bits are never refused.
     ///
     /// A law: the body is empty, and a caller cites the clause.
     pub fn bit_draws_are_not_refused()
@@ -40,8 +40,8 @@ impl<
             IsUnrefusedDraw (⟦<Self as CanSampleBits<usize>>⟧.bits_sampling bits) }
     {}
 
-    /// Observations of arrays and lists of lists of scalars, of digests and of caps are never refused: no list of them
-    /// leaves any challenger with an error. A slice of them leaves, by the law `slice_leaves` of [`CanObserve`], what
+    /// Observations of arrays and lists of lists of scalars, of digests and of caps are never refused. No list of them
+    /// leaves any challenger with an error. By the law `slice_leaves` of [`CanObserve`], a slice of them leaves what
     /// such a list leaves.
     ///
     /// A law: the body is empty, and a caller cites the clauses.
@@ -52,8 +52,7 @@ impl<
         ensures lists { IsNeverRefused ⟦<Self as CanObserve<Vec<Vec<F>>>>⟧.observation }
     {}
 
-    /// Checks of witnesses are never refused, whatever number of bits they test: they take no memory, and meet no
-    /// limit.
+    /// Checks of witnesses are never refused, for any number of bits: they take no memory, and meet no limit.
     ///
     /// A law: the body is empty, and a caller cites the clause.
     pub fn checks_are_not_refused()

@@ -1,4 +1,4 @@
-//! Scalars and elements that a multi-field challenger observes and draws, and the digest that it ends in.
+//! Observations and draws of scalars and elements, and the final digest.
 ghost use Rattle.std.specs.Prelude.{refl, [], ◌∷◌, Some};
 ghost use Rattle.p3_multi_field.specs.MultiFieldState.{after_sampled, scalar_observed, drawn, after_drawn, finalized};
 ghost use Rattle.p3_multi_field.specs.{MultiFieldStateLaws.{fed-append, is_observation}, MultiFieldCalls.scalar};

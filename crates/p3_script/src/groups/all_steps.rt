@@ -1,4 +1,4 @@
-//! The group that has bits, proofs of work and uniform bits beside the plain steps.
+//! The group of bits, proofs of work and uniform bits in addition to the plain steps.
 ghost use Rattle.std.specs.Prelude.{true};
 
 use crate::groups::{Both, StepGroup};

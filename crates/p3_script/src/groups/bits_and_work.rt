@@ -1,4 +1,4 @@
-//! The group that has bits and proofs of work beside the plain steps.
+//! The group of bits and proofs of work in addition to the plain steps.
 ghost use Rattle.std.specs.Prelude.{◌≡◌, true, false, IsErr, Some};
 ghost use Rattle.p3_challenger_core.specs.Sampling.{unrefused_draw};
 ghost use Rattle.p3_script.specs.GroupLaws.{nothing-drawn};

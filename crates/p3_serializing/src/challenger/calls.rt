@@ -1,4 +1,4 @@
-//! Laws: what each method is as calls on the inner challenger, or as calls of the list that `follows_groups` speaks of.
+//! Laws: each method as calls on the inner challenger, or as calls of the list that `follows_groups` speaks of.
 ghost use Rattle.std.specs.{Prelude.{◌≡◌, ◌==◌, ℕ, suc, Bool, [], ◌∷◌, Some, None, IsSome}, List.flat_map};
 ghost use Rattle.std.specs.Option.{option_map};
 ghost use Rattle.p3_symmetric.specs.Digests.{values_of};
@@ -19,9 +19,9 @@ impl<F: SerializedIn<BYTES>, Inner: CanObserve<u8>, const BYTES: usize> Serializ
     Inner,
     BYTES,
 > {
-    /// Whatever is observed, the inner challenger observes its bytes, in order: of an element the `BYTES` bytes of its
-    /// number, the lowest first; of an array those of its elements; of a digest of bytes these bytes, and of one of
-    /// words 8 bytes for each; of a cap those of its roots one after another.
+    /// The inner challenger observes the bytes of each value, in order. An element has the `BYTES` bytes of its number,
+    /// lowest first, and an array those of its elements. A digest of bytes has these bytes, a digest of words 8 bytes
+    /// for each word, and a cap those of its roots.
     ///
     /// A law: the body is empty, and a caller cites the clauses.
     pub fn observes_are_calls<const N: usize>()
@@ -48,8 +48,8 @@ impl<F: SerializedIn<BYTES>, Inner: CanSample<u8>, const BYTES: usize> Serializi
     Inner,
     BYTES,
 > {
-    /// An element of a space of some dimension is as many draws of elements of the field, which are its coefficients,
-    /// coefficient 0 first; it stops at the first that meets the draw limit. Uniform bits are bits, and no value is
+    /// An element of a space is one draw of a field element for each coefficient, coefficient 0 first. The draw stops
+    /// at the first coefficient that meets the draw limit. Uniform bits are drawn as plain bits, and no value is
     /// rejected.
     ///
     /// A law: the body is empty, and a caller cites the clauses.
@@ -70,7 +70,7 @@ impl<F: SerializedIn<BYTES>, Inner: CanSample<u8>, const BYTES: usize> Serializi
             (⟦<Self as CanSampleUniformBits<F>>⟧.uniform resample bits).rejects s ≡ None }
     {}
 
-    /// The digest at the end is that of the inner challenger.
+    /// The final digest is that of the inner challenger.
     ///
     /// A law: the body is empty, and a caller cites the clause.
     pub fn digest_is_inner()
@@ -86,9 +86,9 @@ impl<
     Inner: CanObserve<u8> + CanSample<u8>,
     const BYTES: usize,
 > SerializingChallenger<F, Inner, BYTES> {
-    /// A check of a witness by at least one bit drops a byte, observes the witness and draws so many bits, and passes
-    /// where they are 0: as these calls of a list that `follows_groups` speaks of. A check by no bits passes and does
-    /// nothing. The byte that is dropped has to be there: the inner challenger meets no limit of its own in it.
+    /// A check of a witness by at least one bit drops a byte, observes the witness and draws the bits. The witness
+    /// passes where they are 0. These are calls of a list that `follows_groups` speaks of. A check by 0 bits passes and
+    /// does nothing. The dropped byte has to be there: its draw meets no limit of the inner challenger.
     ///
     /// A law: the body is empty, and a caller cites the clauses.
     pub fn checks_are_calls()

@@ -1,5 +1,5 @@
-//! The digests that a serializing challenger observes, of bytes or of words of 64 bits, and caps of them. A digest of
-//! bytes reaches the inner challenger as one slice, and a digest of words as a slice of 8 bytes for each word.
+//! Observations of digests of bytes, digests of words of 64 bits, and caps of them. A digest of bytes reaches the
+//! inner challenger as one slice, and a digest of words as a slice of 8 bytes for each word.
 ghost use Rattle.std.specs.Prelude.{List};
 ghost use Rattle.p3_challenger_core.specs.Observation.{each_as, ObservesOrRefuses, ObservesSame, Observation};
 ghost use Rattle.p3_challenger_core.specs.Observation.{IsObservation, observed_as, in_row};
@@ -18,8 +18,7 @@ impl<F: SerializedIn<BYTES>, Inner: CanObserve<u8>, const BYTES: usize> Serializ
     Inner,
     BYTES,
 > {
-    /// A cap that is lent is observed as its contents are, the cap itself: it feeds the same symbols, and leaves the
-    /// same state.
+    /// A borrowed cap is observed like the cap itself: it feeds the same symbols, and leaves the same state.
     ///
     /// A law: the body is empty, and a caller cites the clauses.
     pub fn lent_caps_are_caps<'a, const N: usize>()

@@ -1,5 +1,5 @@
-//! What a serializing challenger draws: elements of the vector spaces over its field, and so of the field itself, and
-//! numbers of some bits. Each is made of groups of bytes of the inner challenger.
+//! Draws of elements of vector spaces over the field, and so of the field itself, and of numbers of bits. Each draw
+//! takes groups of bytes of the inner challenger.
 ghost use Rattle.std.specs.Prelude.{◌≡◌, ℕ, ◌≤◌, ◌-◌, ◌^◌, Bool, nat_lt};
 ghost use Rattle.p3_challenger_core.specs.{Sampling.{DrawsOrRefuses, most_bits_of}, BitLaws.most_bits-short};
 ghost use Rattle.p3_serializing.specs.SerializingState.{bits_of_order, group, element_of_groups, state_of};
@@ -21,7 +21,7 @@ impl<F: SerializedIn<BYTES>, Inner: CanSample<u8>, const BYTES: usize> Serializi
     Inner,
     BYTES,
 > {
-    /// A draw of an element cuts each group to the least number of bits that every number below the order fits in.
+    /// A draw of an element cuts each group to the least number of bits that holds every number below the order.
     ///
     /// A law: a caller cites the clauses.
     pub fn groups_are_cut_to_least_bits()
@@ -46,10 +46,11 @@ impl<F: SerializedIn<BYTES>, Inner: CanSample<u8>, const BYTES: usize> Serializi
     Inner,
     BYTES,
 > {
-    /// A draw of an element of the field gives nothing exactly where each of as many groups as the draw limit allows is
-    /// drawn and, cut to the bits of the order, is not below the order. There, and nowhere else, it meets the limit,
-    /// and the challenger stands after just so many groups. A draw of bits, uniform or not, meets no limit, and gives a
-    /// number. All this holds where the inner challenger's draws meet no limit of their own.
+    /// Draw limits are met exactly. A draw of a field element draws as many groups as the draw limit allows, each cut
+    /// to the bits of the order. It has no result exactly where no such group is below the order. There, and nowhere
+    /// else, it meets the limit, and the challenger is left after just those groups. A draw of bits, uniform or not,
+    /// meets no limit, and gives a number. All this holds where the inner challenger's draws meet no limit of their
+    /// own.
     ///
     /// A law: the body is empty, and a caller cites the clauses.
     pub fn limits_are_met_exactly()

@@ -19,9 +19,9 @@ impl<
     Inner: ByteGrindingChallenger<BYTES, BYTES>,
     const BYTES: usize,
 > SerializingChallenger<F, Inner, BYTES> {
-    /// An equal challenger, which shares nothing with this one.
+    /// Returns an equal challenger, which shares nothing with this one.
     ///
-    /// The one error is [`ChallengerError::OutOfMemory`]. The Rust crate's `Clone`, which answers no error.
+    /// The one error is [`ChallengerError::OutOfMemory`]. The Rust crate's `Clone` returns no error.
     pub fn clone(&self) -> Result<Self, ChallengerError>
         ensures ok { IfOk result (λ c. state_of Inner.state c ≡ state_of Inner.state self.now) }
         ensures err { IfErr result (λ e. Inner.copies_may_fail × (e ≡ OutOfMemory)) }

@@ -1,4 +1,4 @@
-//! The search for the least witness, by that of the inner challenger for candidates of bytes.
+//! The search for the least witness, by the inner challenger's search for candidates of bytes.
 ghost use Rattle.std.specs.Prelude.{◌≡◌, ◌<◌, ◌%◌, ◌^◌};
 
 use crate::{SerializedIn, SerializingChallenger};
