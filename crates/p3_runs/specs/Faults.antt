@@ -13,7 +13,8 @@ TellOneFault Refuses = (p q : ℕ) (e f : TranscriptError) → Refuses p e → R
 
 module _ {X S Symbol I F EF O Ac : Type 0} (U D : Type 0) (rules : Rules S Symbol I F EF O Ac)
     (play : X → Play S Symbol F EF O) (sides : X → Sides S F EF) where
-  -- each script of admitted steps is refused to a verifier for one fault, over the same bytes and carried witnesses
+  -- each script of admitted steps is refused to a verifier for one fault, given the same bytes and carried
+  -- witnesses
   abbrev pub ProofsTellOneFault : Type 0
   ProofsTellOneFault = (script : Run X F EF S U D) (bytes : List ℕ) (carried : List F) → AreAdmitted play script.steps →
       TellOneFault (RefusesProof rules play sides script bytes carried)

@@ -45,11 +45,11 @@ module _ {X S Symbol I F EF O Ac U D : Type 0} (rules : Rules S Symbol I F EF O 
     pub refuses : IsPatternError
         (λ m. FaultOfPlayEnd (playing_after (with_steps script script.steps values)) (pattern_error_of m)) e
 
-  -- A step is refused. It comes with this value after a finished prefix, each of whose witnesses is the least.
+-- ---- where and why a prover refuses, by its refusals of each step
 
 module _ {X S Symbol I F EF O Ac U D : Type 0} (rules : Rules S Symbol I F EF O Ac) (play : X → Play S Symbol F EF O)
     (sides : X → Sides S F EF) where
-  -- A step is refused: after a finished front, of which each witness is the least, this step comes, with this value.
+  -- A step is refused. It comes with this value after a finished prefix, each of whose witnesses is the least.
   pub record RefusesToProveStep (script : Run X F EF S U D) (sent : List (Value F EF)) (position : ℕ)
       (e : TranscriptError) : Type 0 where
     pub before : List X
@@ -68,7 +68,7 @@ module _ {X S Symbol I F EF O Ac U D : Type 0} (rules : Rules S Symbol I F EF O 
     pub refuses : OrHalts ((sides step).prover given)
         (driving_after rules play (with_steps script before values) (runs.wires play before values)) e after
 
-  -- The end is refused: all steps were played, and steps of the pattern are left.
+  -- the seed is refused, or a step, or the end
   abbrev pub RefusesToProve : Run X F EF S U D → List (Value F EF) → ℕ → TranscriptError → Type 0
   RefusesToProve script sent position e =
       ((position ≡ 0) × RefusesStart (rules.alphabet.is_too_long (length (seed rules play script))) e)
