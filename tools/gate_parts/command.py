@@ -26,6 +26,7 @@ The repository's test command. It runs, at the top of the repository,
   tools/links                     that each relative link of each page leads somewhere
   tools/words                     that no text has a word that the table of words says not to use
   tools/pages                     that what pages say of the code is what it writes of it, and that names and numbers are there
+  tools/guide                     GUIDE's recipe in an empty folder, from its commands to a proved clause, and the code on its page
   tools/self-test                 that those of these which decide pass what is right and fail what is wrong
   tools/wrong-bodies --self-test  that the next command holds the right edits for refused, where tools/ changed since that passed
   tools/wrong-bodies              wrong bodies, which the prover must refuse: those whose refusal is not on record as the text is
@@ -61,6 +62,7 @@ def main(words):
                 Part("tools/links", [f"{ROOT}/tools/links"]),
                 Part("tools/words", [f"{ROOT}/tools/words"]),
                 Part("tools/pages", [f"{ROOT}/tools/pages"]),
+                Part("tools/guide", [f"{ROOT}/tools/guide"]),
                 Part("tools/self-test", [f"{ROOT}/tools/self-test"]),
                 Part("tools/wrong-bodies --self-test", [f"{ROOT}/tools/wrong-bodies", "--self-test"]),
             ]

@@ -23,6 +23,7 @@ mod bound_values;
 pub mod commit_phase;
 pub mod demo_script;
 mod extra_value;
+pub mod fri_script;
 mod lists;
 pub mod opening;
 pub mod own_algebra;
