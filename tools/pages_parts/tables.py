@@ -79,7 +79,7 @@ class Tables:
             yield coded(bare), ""
 
     def edits(self):
-        """Returns the table of how many wrong bodies each crate has that has any, as `tools/wrong-bodies --count` writes it."""
+        """Returns the table of how many wrong bodies each crate has that has any."""
         counts = {it.name: len(self.texts.matching(rf"crates/{it.name}/wrong-bodies/[^/]*\.edit")) for it in self.every}
         rows = [f"| `{name}` | {many} |" for name, many in counts.items() if many]
         return "\n".join(["| Crate | Edits |", "|---|--:|", *rows, f"| all | {sum(counts.values())} |"])

@@ -16,7 +16,6 @@ record      the record of refusals that is committed, and the key of an edit
 sample      the edits on record that a run tries again
 run         the crates that are tried, their rows and the count
 listing     the list of all edits
-counts      how many there are, as two pages say it
 command     the command line
 self_test   the command, tried on a small repository of its own
 self_record what the self test last passed on

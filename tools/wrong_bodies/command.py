@@ -6,7 +6,7 @@ import signal
 import sys
 import tempfile
 
-from . import counts, listing, record
+from . import listing, record
 from .kit import rtlib
 from .run import Run
 from .verdicts import MEANING
@@ -35,9 +35,6 @@ its crate are tried. With --all every edit is tried. With --record what was seen
 A refusal may have marks: [requires] only what a callee asks failed, [gave up] the search met a limit at each goal, [false]
 values are known at which a goal is false, [answers] only answers that a proof file, or the value of a ghost member, gives failed.
 
-Where no names are given, what {counts.TABLE} and {counts.SUM} say of how many edits there are is looked at too, and a page
-that says another number counts as one failure. With --count these pages are written.
-
 The last line is 'N passed, M failed': an edit passes where it is refused. The exit status is 1 where one failed."""
 
 
@@ -50,7 +47,6 @@ def parsed(words):
     parser.add_argument("--all", action="store_true", help="try all, also what is on record")
     parser.add_argument("--record", action="store_true", help="put on record what is seen refused, and try no sample")
     parser.add_argument("--list", action="store_true", help="print what each edit does, and try none")
-    parser.add_argument("--count", action="store_true", help=f"write into {counts.TABLE} and {counts.SUM} how many edits there are, and try none")
     parser.add_argument("--alone", action="store_true", help="check each edit by itself")
     parser.add_argument("--fresh", action="store_true", help="take nothing of what rt check kept of the crate")
     parser.add_argument("--keep", metavar="DIR", help="keep what each check printed, in DIR/CRATE")
@@ -80,26 +76,13 @@ def main(words):
     if given.list:
         print(*listing.lines([it for it in crates if not given.names or it.name in given.names]), sep="\n")
         return 0
-    if given.count:
-        return count(root, crates)
     asked = asked_for(given.names, crates)
     with tempfile.TemporaryDirectory(prefix="wrong-bodies-") as room:
         remove_when_stopped(room)
         run = Run(given, room)
         run.all_of(asked, root)
-        if not given.names:
-            run.failed += counts.faults(root, crates)
     print(*run.last_lines(), sep="\n")
     return 1 if run.failed else 0
-
-
-def count(root, crates):
-    """Writes into the pages how many edits there are, and returns the exit status."""
-    try:
-        print(f"{counts.write(root, crates)} edits")
-    except counts.NoPlace as error:
-        stop(error)
-    return 0
 
 
 def remove_when_stopped(room):

@@ -7,7 +7,7 @@ import subprocess
 import sys
 import tempfile
 
-from . import counts, libraries, record, sample, self_record, texts
+from . import libraries, record, sample, self_record, texts
 from .kit import rtlib
 
 COMMAND = f"{os.path.dirname(os.path.dirname(os.path.realpath(__file__)))}/wrong-bodies"
@@ -304,26 +304,6 @@ def of_forged(root):
     os.remove(record.file_of(high))
 
 
-def of_counts(root):
-    """Has the two pages say how many edits there are."""
-    crates = rtlib.crates_below(root)
-    yield "where there are no pages, nothing is said of the number of edits", counts.faults(root, crates) == []
-    write(f"{root}/{counts.TABLE}", f"Before.\n\n{counts.HEAD}| `low` | 3 |\n| all | 3 |\n\n| After | it |\n|---|---|\n| all | of it |\n")
-    write(f"{root}/{counts.SUM}", "3 wrong bodies (mutants) are on file, of 3.\n")
-    told = counts.faults(root, crates)
-    yield "a page that says another number of edits is told", [it.partition(" ")[0] for it in told] == [counts.TABLE, counts.SUM]
-    status, lines = run(root, "--count")
-    many = len(CASES)
-    rows = f"{counts.HEAD}| `high` | {many} |\n| all | {many} |\n\n| After | it |\n|---|---|\n| all | of it |\n"
-    is_written = rtlib.text_of(f"{root}/{counts.TABLE}") == f"Before.\n\n{rows}"
-    yield "the table is written, and nothing else of its page", status == 0 and lines[-1] == f"{many} edits" and is_written
-    yield "and so is the sum", rtlib.text_of(f"{root}/{counts.SUM}") == f"{many} wrong bodies (mutants) are on file, of 3.\n"
-    yield "then the pages are as they have to be", counts.faults(root, crates) == []
-    write(f"{root}/{counts.SUM}", "No number.\n")
-    yield "a page without a place for it is told", len(counts.faults(root, crates)) == 1
-    os.remove(f"{root}/{counts.TABLE}")
-
-
 def of_samples():
     """Chooses among many names."""
     names = [f"crate/edit_{it}" for it in range(1000)]
@@ -367,7 +347,7 @@ def main(is_asked=True, is_recorded=False):
     counts = collections.Counter()
     with tempfile.TemporaryDirectory(prefix="wrong-bodies-self-test-") as root:
         make(root)
-        told = [*of_samples(), *of_counts(root), *of_keys(root), *of_all(root), *of_one(root), *of_record(root), *of_forged(root), *of_marked(root)]
+        told = [*of_samples(), *of_keys(root), *of_all(root), *of_one(root), *of_record(root), *of_forged(root), *of_marked(root)]
         with open(f"{root}/crates/high/src/lib.rt", encoding="utf-8") as it:
             told.append(("the crate's own text is as it was", it.read() == HIGH))
     for text, holds in told:

@@ -103,6 +103,7 @@ pub use Rattle.p3_binding.specs.Hints
 pub use Rattle.p3_script.specs.Accepting
 pub use Rattle.p3_script.specs.Draws
 pub use Rattle.p3_script.specs.OneRun
+pub use Rattle.p3_script.specs.ScriptRefusals
 pub use Rattle.p3_script.specs.Scripts
 pub use Rattle.p3_script.specs.Standings
 pub use Rattle.p3_script_answers.specs.Answering

@@ -447,7 +447,7 @@ fn absorb<
         cells.new ≡ rule.permute (permutation_input rule cells.old block.now) }
 {
     if block.is_empty() {
-        *cells = permuted(*cells, permutation);
+        *cells = permuted(&*cells, permutation);
     } else {
         overwrite(&mut cells[..], block, RATE);
         permutation.permute_mut(cells);
@@ -456,15 +456,16 @@ fn absorb<
 
 // The cells, permuted.
 // It is not written out at each call: else a loop of draws keeps the cells in registers of vectors, and at every draw
-// moves them about for the next permutation.
+// moves them about for the next permutation. It reads them where they stand, since a copy made for the call would be
+// read at other places than it was written, which waits for the writes.
 #[inline(never)]
 fn permuted<F: PrimeField64, P: CryptographicPermutation<[F; WIDTH]>, const WIDTH: usize>(
-    cells: [F; WIDTH],
+    cells: &[F; WIDTH],
     permutation: &P,
 ) -> [F; WIDTH]
-    ensures { result ≡ P.permutation permutation.now cells }
+    ensures { result ≡ P.permutation permutation.now cells.now }
 {
-    let mut permuted = cells;
+    let mut permuted = *cells;
     permutation.permute_mut(&mut permuted);
     permuted
 }

@@ -1,9 +1,9 @@
 -- Sums and differences modulo an order, of each two lanes: a comparison and a choice.
-use Rattle.std.proofs.Common.{◌≡◌, ℕ, zero, suc, ◌+◌, ◌-◌, ◌%◌, ◌^◌, ◌<◌, ◌≤◌, ◌∙◌, List, [], ◌∷◌, length, replicate, cond, map, nat_lt, refl, sym, ap, inl, inr, arith}
+use Rattle.std.proofs.Common.{◌≡◌, ℕ, zero, suc, ◌+◌, ◌-◌, ◌*◌, ◌%◌, ◌^◌, ◌<◌, ◌≤◌, ◌∙◌, List, [], ◌∷◌, length, replicate, cond, map, nat_lt, false, refl, sym, ap, inl, inr, arith}
 use Rattle.std.{proofs.Math.Nat.{mod-eq_of_lt, mod-eq-sub-mod}, specs.Prelude.slice_index}
 use Rattle.std.proofs.lemmas.Bool.{cases_lt, lt-ltb, le-ltb, cond-true, cond-false}
 use Rattle.std.specs.Simd.Lanes.{zip2, Each1, sel_l, top}
-use Rattle.std.proofs.lemmas.Simd.{tops_compared, Each1-from_get_or, get_or-zip2}
+use Rattle.std.proofs.lemmas.Simd.{tops_compared, Each1-from_get_or, get_or-zip2, get_or-sel_l, length-zip2, get_or-replicate, length-replicate}
 use mir.{Syntax.Width, Val.{bits, hbits}}
 
 -- a sum, and a difference, as lanes below `m` have it
@@ -127,3 +127,49 @@ module _ (w : Width) (order : ℕ) (within : order < 2 ^ bits w) (n : ℕ) (xs y
       (Each1-from_get_or (λ a. a < order) xs 0 (λ i at. xb i (omega (arith, at, xlong))))
       (Each1-from_get_or (λ a. a < order) ys 0 (λ i at. yb i (omega (arith, at, ylong)))) ylong)
       ∙ get_or-zip2 (λ a b. (a + (order - b)) % order) xs ys l 0 0 0 (omega (arith, lt, xlong)) (omega (arith, lt, ylong))
+
+-- the less of a number below twice an order and that number less the order, modulo m
+one_reduced : (m order a : ℕ) → order < m → a < m → a < 2 * order
+    → let rest = wrapped_difference m a order in cond (nat_lt a rest) a rest ≡ a % order
+one_reduced m order a within fits twice =
+    let rest = wrapped_difference m a order in
+    elim (cases_lt a order) [
+      | inl lt ↦
+          let is : rest ≡ a + (m - order) = mod-eq_of_lt (omega arith) in
+          cond-true _ _ _ (lt-ltb a rest (omega (arith, is))) ∙ sym (mod-eq_of_lt lt)
+      | inr le ↦
+          let is : rest ≡ a - order = no_wrap m a order le fits in
+          cond-false _ _ _ (le-ltb a rest (omega (arith, is))) ∙ is ∙ sym (less_order a order le (omega arith))
+    ]
+
+module _ (w : Width) (order : ℕ) (within : order < 2 ^ bits w) (n : ℕ) (xs : List ℕ) (long : length xs ≡ n)
+    (l : ℕ) (lt : l < n) (fits : slice_index xs l < 2 ^ bits w) (twice : slice_index xs l < 2 * order) where
+  abbrev rests : List ℕ
+  rests = zip2 (wrapped_difference (2 ^ bits w)) xs (replicate n order)
+
+  there : l < length xs
+  there = omega (arith, lt, long)
+
+  orders_long : length (replicate {A = ℕ} n order) ≡ n
+  orders_long = length-replicate {A = ℕ} n order
+
+  rests_long : length rests ≡ length xs
+  rests_long = length-zip2 _ xs (replicate n order) (long ∙ sym orders_long)
+
+  rest_is : slice_index rests l ≡ wrapped_difference (2 ^ bits w) (slice_index xs l) order
+  rest_is =
+      get_or-zip2 (wrapped_difference (2 ^ bits w)) xs (replicate n order) l 0 0 0 there (omega (arith, lt, orders_long))
+      ∙ ap (wrapped_difference (2 ^ bits w) (slice_index xs l)) (get_or-replicate {A = ℕ} n l order 0 lt)
+
+  rest_there : l < length rests
+  rest_there = omega (arith, there, rests_long)
+
+  pub reduced_in_lane : slice_index (sel_l (map (top (hbits w)) (zip2 (compared w) xs rests)) xs rests) l ≡ slice_index xs l % order
+  reduced_in_lane =
+      let tests = zip2 nat_lt xs rests in
+      let tests_long : length tests ≡ length xs = length-zip2 nat_lt xs rests (sym rests_long) in
+      ap (λ ms. slice_index (sel_l ms xs rests) l) (tops_compared w nat_lt xs rests)
+      ∙ get_or-sel_l tests xs rests l 0 (omega (arith, there, tests_long)) there rest_there
+      ∙ ap (λ b. cond b (slice_index xs l) (slice_index rests l)) (get_or-zip2 nat_lt xs rests l 0 0 false there rest_there)
+      ∙ ap (λ r. cond (nat_lt (slice_index xs l) r) (slice_index xs l) r) rest_is
+      ∙ one_reduced (2 ^ bits w) order (slice_index xs l) within fits twice

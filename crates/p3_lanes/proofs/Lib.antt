@@ -1,2 +1,3 @@
 pub mod LaneElements
 pub mod LaneSums
+pub mod Quotients

@@ -14,8 +14,8 @@ use std::simd::Simd;
 /// numbers.
 ///
 /// Each number is below the order, by an invariant of the type, so two such values are equal where
-/// their elements are. Sums and differences are vector operations; products are computed lane by
-/// lane.
+/// their elements are. Sums and differences are vector operations. So are products modulo the
+/// orders of [`BabyBear`] and [`KoalaBear`]; modulo other orders they may be computed lane by lane.
 ///
 /// Not in the Rust crate, which has a packed type for each field and instruction set.
 #[derive(Clone, Copy, Debug, PartialEq, Eq)]

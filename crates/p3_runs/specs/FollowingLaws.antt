@@ -7,7 +7,7 @@ use Rattle.p3_patterns.specs.Playing.{Playing}
 use Rattle.p3_driver_core.specs.{Driving.Driving, Transcripts.PlaysStep, Verifying.{EndsReading, RefusesEnd}}
 use Rattle.p3_runs.specs.{Runs.{if_in_proof, if_carried, if_drawn}, Values.{Value, Challenge}, RunLaws.AreMatched}
 use Rattle.p3_runs.specs.RunLaws.{finished-matched, finishes-more, wires-more, picked-more, after-more, challenges-more}
-use Rattle.p3_runs.specs.{Rules.Rules, Stepping.{TakesStep, Halts, IsCarriedTo, one_of, one_witness, all_witnesses}}
+use Rattle.p3_runs.specs.{Rules.Rules, Sides.Sides, Stepping.{TakesStep, Halts, IsCarriedTo, one_of, one_witness, all_witnesses}}
 use Rattle.p3_runs.specs.Verdicts.{with_steps, driving_after, IsProof, IsOutcome, RefusesAtStep, RefusesAtEnd}
 use Rattle.p3_runs.specs.{Plays.{Play, Place, Carried, meaning}, Fronts.{Run, IsFinished, pattern, seed, seeded}}
 use Rattle.p3_runs.specs.Runs as runs
@@ -171,12 +171,12 @@ module _ {X S Symbol I F EF O Ac U D : Type 0} (rules : Rules S Symbol I F EF O 
 
   -- ---- a step is refused
 
-  pub follows-refused : (script : Run X F EF S U D) (bytes : List ℕ) (carried : List F) (i j k : ℕ) (here there : Driving S)
+  pub follows-refused : (sides : X → Sides S F EF) (script : Run X F EF S U D) (bytes : List ℕ) (carried : List F) (i j k : ℕ) (here there : Driving S)
       (received : List (Value F EF)) (drawn : List (Challenge F EF)) (x : X) (w : Option F) (e : TranscriptError) →
       drop i script.steps ≡ x ∷ drop (i + 1) script.steps → drop j carried ≡ one_of w ++ drop k carried →
       IsCarriedTo (play x).place w → Follows script bytes carried i j here received drawn →
-      (play x).sides.verifier w here e there ⊎ Halts here e there → RefusesAtStep rules play script bytes carried i e
-  follows-refused script bytes carried i j k here there received drawn x w e at uses brought f refuses =
+      (sides x).verifier w here e there ⊎ Halts here e there → RefusesAtStep rules play sides script bytes carried i e
+  follows-refused sides script bytes carried i j k here there received drawn x w e at uses brought f refuses =
       record {
         before = f.before;
         step = x;

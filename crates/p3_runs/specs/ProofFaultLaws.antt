@@ -5,7 +5,7 @@ use Rattle.p3_fs_core.specs.declared.error.TranscriptError.TheVariants.{OutOfMem
 use Rattle.p3_driver_core.specs.Driving.{Driving}
 use Rattle.p3_runs.specs.{ReachLaws.{Reaches, one-front, passed-step}, Faults.{TellOneFault, ProofsTellOneFault}}
 use Rattle.p3_runs.specs.{Rules.Rules, FaultLaws.{Stops, GoesPast, one-step, one-fault, end-refusal}, Runs.AreAdmitted}
-use Rattle.p3_runs.specs.{Plays.{Play, Place, Carried}, Values.Value, Stepping.{IsCarriedTo, OrHalts, one_witness}}
+use Rattle.p3_runs.specs.{Plays.{Play, Place, Carried}, Values.Value, Sides.Sides, Stepping.{IsCarriedTo, OrHalts, one_witness}}
 use Rattle.p3_runs.specs.{Stepping.{IsCanonical, IsTakenWherePossible, RefuseForOneReason}, Fronts.{Run, seed}}
 use Rattle.p3_runs.specs.{Verdicts.{with_steps, driving_after, RefusesAtStep, RefusesAtEnd}, FrontLaws.next-admitted}
 use Rattle.p3_runs.specs.Runs as runs
@@ -19,9 +19,9 @@ one-brought EF Carried (Some x) (Some y) a b first second e = let same : x ≡ y
 one-brought EF _ w u a b first second e = first ∙ sym second
 
 module _ {X S Symbol I F EF O Ac U D : Type 0} (rules : Rules S Symbol I F EF O Ac) (play : X → Play S Symbol F EF O)
-    (canonical : (x : X) → FitsLength (play x).interaction.length → IsCanonical (play x))
-    (taken : (x : X) → FitsLength (play x).interaction.length → (play x).admitted → IsTakenWherePossible (play x))
-    (reasons : (x : X) → (play x).admitted → RefuseForOneReason (play x).sides) where
+    (sides : X → Sides S F EF) (canonical : (x : X) → FitsLength (play x).interaction.length → IsCanonical (play x))
+    (taken : (x : X) → FitsLength (play x).interaction.length → (play x).admitted → IsTakenWherePossible (play x) (sides x))
+    (reasons : (x : X) → (play x).admitted → RefuseForOneReason (sides x)) where
   module _ (script : Run X F EF S U D) (bytes : List ℕ) (carried : List F) (admitted : AreAdmitted play script.steps) where
     -- a verifier stops at this step, after this prefix
     record StopsAt (front : List X) (x : X) (e : TranscriptError) : Type 0 where
@@ -33,10 +33,10 @@ module _ {X S Symbol I F EF O Ac U D : Type 0} (rules : Rules S Symbol I F EF O 
       reaches : Reaches rules play script bytes carried front values left (one_witness witness ++ unused)
       brought : IsCarriedTo (play x).place witness
       after : Driving S
-      refuses : OrHalts ((play x).sides.verifier witness)
+      refuses : OrHalts ((sides x).verifier witness)
           (driving_after rules play (with_steps script front values) left) e after
 
-    stops-at : (position : ℕ) (e : TranscriptError) (r : RefusesAtStep rules play script bytes carried position e) →
+    stops-at : (position : ℕ) (e : TranscriptError) (r : RefusesAtStep rules play sides script bytes carried position e) →
         StopsAt r.before r.step e
     stops-at position e r =
         record {
@@ -51,7 +51,7 @@ module _ {X S Symbol I F EF O Ac U D : Type 0} (rules : Rules S Symbol I F EF O 
           refuses = r.refuses;
         }
 
-    stops : (position : ℕ) (e : TranscriptError) → RefusesAtStep rules play script bytes carried position e →
+    stops : (position : ℕ) (e : TranscriptError) → RefusesAtStep rules play sides script bytes carried position e →
         Stops script.steps StopsAt position e
     stops position e r =
         record {
@@ -68,7 +68,7 @@ module _ {X S Symbol I F EF O Ac U D : Type 0} (rules : Rules S Symbol I F EF O 
         (left : List ℕ) (unused : List (Value F EF)) → StopsAt front x e →
         Reaches rules play script bytes carried longer values left unused → GoesPast front x longer → e ≡ OutOfMemory
     past-memory front x longer e values left unused stop long past =
-        passed-step rules play script bytes carried canonical taken front x past.between stop.values values stop.left left
+        passed-step rules play script bytes carried canonical sides taken front x past.between stop.values values stop.left left
         stop.witness stop.unused unused stop.after e stop.allowed stop.brought stop.reaches
         (subst (λ l. Reaches rules play script bytes carried l values left unused) past.split long) stop.refuses
 
@@ -85,13 +85,13 @@ module _ {X S Symbol I F EF O Ac U D : Type 0} (rules : Rules S Symbol I F EF O 
         (driving_after rules play (with_steps script front one.values) one.left)
         one.after two.after e f one.refuses again p q
 
-    steps-one : TellOneFault (RefusesAtStep rules play script bytes carried)
+    steps-one : TellOneFault (RefusesAtStep rules play sides script bytes carried)
     steps-one p q e f r t other another =
         one-step script.steps StopsAt one_stop
         (λ front longer x y a b one two past. past-memory front x longer a two.values two.left
         (one_witness two.witness ++ two.unused) one two.reaches past) p q e f (stops p e r) (stops q f t) other another
 
-    step-no_end : (p q : ℕ) (e f : TranscriptError) → RefusesAtStep rules play script bytes carried p e →
+    step-no_end : (p q : ℕ) (e f : TranscriptError) → RefusesAtStep rules play sides script bytes carried p e →
         RefusesAtEnd rules play script bytes carried q f → e ≡ OutOfMemory
     step-no_end p q e f r t =
         past-memory r.before r.step script.steps e t.values t.left [] (stops-at p e r) (record {
@@ -106,9 +106,9 @@ module _ {X S Symbol I F EF O Ac U D : Type 0} (rules : Rules S Symbol I F EF O 
         let again = end-refusal (driving_after rules play (with_steps script script.steps t.values) t.left) f refl t.refuses in
         (r.place ∙ sym t.place, told ∙ sym again)
 
-  pub proofs-one_fault : ProofsTellOneFault U D rules play
+  pub proofs-one_fault : ProofsTellOneFault U D rules play sides
   proofs-one_fault script bytes carried admitted =
       one-fault (rules.alphabet.is_too_long (length (seed rules play script)))
-      (RefusesAtStep rules play script bytes carried) (RefusesAtEnd rules play script bytes carried)
+      (RefusesAtStep rules play sides script bytes carried) (RefusesAtEnd rules play script bytes carried)
       (steps-one script bytes carried admitted) (ends-one script bytes carried admitted)
       (step-no_end script bytes carried admitted) (λ p e r. r.finished.seed_fits) (λ p e r. r.finished.seed_fits)

@@ -6,14 +6,14 @@ use Rattle.p3_driver_core.specs.Driving.{Driving}
 use Rattle.p3_runs.specs.{Provings.{RefusesToProveStep, RefusesToProveEnd}, Faults.{ProvingsTellOneFault, TellOneFault}}
 use Rattle.p3_runs.specs.{Values.Value, RefusalLaws.{ReachesSent, passed-sent, sent-split, one-sent}, Runs.AreAdmitted}
 use Rattle.p3_runs.specs.{Runs.if_sent, Rules.Rules, Stepping.{IsSentWherePossible, RefuseForOneReason, IsDetermined}}
-use Rattle.p3_runs.specs.{Stepping.OrHalts, FaultLaws.{end-refusal, one-fault, GoesPast, one-step, end-read, Stops}}
+use Rattle.p3_runs.specs.{Sides.Sides, Stepping.OrHalts, FaultLaws.{end-refusal, one-fault, GoesPast, one-step, end-read, Stops}}
 use Rattle.p3_runs.specs.{Verdicts.{driving_after, with_steps}, Plays.Play, FrontLaws.next-admitted, Fronts.{seed, Run}}
 use Rattle.p3_runs.specs.Runs as runs
 
 module _ {X S Symbol I F EF O Ac U D : Type 0} (rules : Rules S Symbol I F EF O Ac) (play : X → Play S Symbol F EF O)
-    (told : (x : X) → IsDetermined (play x))
-    (possible : (x : X) → FitsLength (play x).interaction.length → (play x).admitted → IsSentWherePossible (play x))
-    (reasons : (x : X) → (play x).admitted → RefuseForOneReason (play x).sides) where
+    (sides : X → Sides S F EF) (told : (x : X) → IsDetermined (play x))
+    (possible : (x : X) → FitsLength (play x).interaction.length → (play x).admitted → IsSentWherePossible (play x) (sides x))
+    (reasons : (x : X) → (play x).admitted → RefuseForOneReason (sides x)) where
   module _ (script : Run X F EF S U D) (sent : List (Value F EF)) (admitted : AreAdmitted play script.steps) where
     -- the state of a prover after a prefix
     abbrev stands : List X → List (Value F EF) → Driving S
@@ -25,12 +25,12 @@ module _ {X S Symbol I F EF O Ac U D : Type 0} (rules : Rules S Symbol I F EF O 
       given : Value F EF
       unused : List (Value F EF)
       allowed : (play x).admitted
-      is_handed : (play x).sides.IsHanded given
+      is_handed : (play x).IsHanded given
       reaches : ReachesSent rules play script sent front values (if_sent (play x).place given ++ unused)
       after : Driving S
-      refuses : OrHalts ((play x).sides.prover given) (stands front values) e after
+      refuses : OrHalts ((sides x).prover given) (stands front values) e after
 
-    stops-at : (position : ℕ) (e : TranscriptError) (r : RefusesToProveStep rules play script sent position e) →
+    stops-at : (position : ℕ) (e : TranscriptError) (r : RefusesToProveStep rules play sides script sent position e) →
         StopsAt r.before r.step e
     stops-at position e r =
         record {
@@ -44,7 +44,7 @@ module _ {X S Symbol I F EF O Ac U D : Type 0} (rules : Rules S Symbol I F EF O 
           refuses = r.refuses;
         }
 
-    stops : (position : ℕ) (e : TranscriptError) → RefusesToProveStep rules play script sent position e →
+    stops : (position : ℕ) (e : TranscriptError) → RefusesToProveStep rules play sides script sent position e →
         Stops script.steps StopsAt position e
     stops position e r =
         record {
@@ -61,7 +61,7 @@ module _ {X S Symbol I F EF O Ac U D : Type 0} (rules : Rules S Symbol I F EF O 
         StopsAt front x e → ReachesSent rules play script sent longer values unused → GoesPast front x longer →
         e ≡ OutOfMemory
     past-memory front x longer e values unused stop long past =
-        passed-sent rules play script sent front x past.between stop.values values stop.unused unused stop.given stop.after
+        passed-sent rules play sides script sent front x past.between stop.values values stop.unused unused stop.given stop.after
         e told possible stop.allowed stop.is_handed stop.reaches
         (subst (λ l. ReachesSent rules play script sent l values unused) past.split long) stop.refuses
 
@@ -77,7 +77,7 @@ module _ {X S Symbol I F EF O Ac U D : Type 0} (rules : Rules S Symbol I F EF O 
         let again = rw (same.0, ← given) at two.refuses in
         (reasons x one.allowed).prover one.given (stands front one.values) one.after two.after e f one.refuses again p q
 
-    steps-one : TellOneFault (RefusesToProveStep rules play script sent)
+    steps-one : TellOneFault (RefusesToProveStep rules play sides script sent)
     steps-one p q e f r t other another =
         one-step script.steps StopsAt one_stop
         (λ front longer x y a b one two past. past-memory front x longer a two.values
@@ -93,7 +93,7 @@ module _ {X S Symbol I F EF O Ac U D : Type 0} (rules : Rules S Symbol I F EF O 
           handed = t.handed ∙ sym (append-nil (runs.handed play script.steps t.values));
         }
 
-    step-no_end : (p q : ℕ) (e f : TranscriptError) → RefusesToProveStep rules play script sent p e →
+    step-no_end : (p q : ℕ) (e f : TranscriptError) → RefusesToProveStep rules play sides script sent p e →
         RefusesToProveEnd rules play script sent q f → e ≡ OutOfMemory
     step-no_end p q e f r t =
         past-memory r.before r.step script.steps e t.values [] (stops-at p e r) (whole q f t)
@@ -105,9 +105,9 @@ module _ {X S Symbol I F EF O Ac U D : Type 0} (rules : Rules S Symbol I F EF O 
         let there = stands script.steps t.values in
         (r.place ∙ sym t.place, end-refusal here e refl (end-read here e r.refuses) ∙ sym (end-refusal there f refl (end-read there f t.refuses)))
 
-  pub provings-one_fault : ProvingsTellOneFault U D rules play
+  pub provings-one_fault : ProvingsTellOneFault U D rules play sides
   provings-one_fault script sent admitted =
       one-fault (rules.alphabet.is_too_long (length (seed rules play script)))
-      (RefusesToProveStep rules play script sent) (RefusesToProveEnd rules play script sent)
+      (RefusesToProveStep rules play sides script sent) (RefusesToProveEnd rules play script sent)
       (steps-one script sent admitted) (ends-one script sent admitted) (step-no_end script sent admitted)
       (λ p e r. r.finished.seed_fits) (λ p e r. r.finished.seed_fits)

@@ -6,7 +6,7 @@ use Rattle.p3_patterns.specs.Playing.{FaultOfPlayEnd, IsPatternError, IsPlayed}
 use Rattle.p3_driver_core.specs.Driving.{Driving}
 use Rattle.p3_runs.specs.{RunLaws.{finished-matched, chosen-more}, Rules.Rules, Verdicts.{driving_after, with_steps}}
 use Rattle.p3_runs.specs.{Plays.{Carried, Place, Play, Sent}, Runs.{if_carried, if_witness, if_drawn, if_sent}}
-use Rattle.p3_runs.specs.{Stepping.{all_witnesses, one_witness, SendsStep, one_of, Halts}, Provings.RefusesToProveStep}
+use Rattle.p3_runs.specs.{Sides.Sides, Stepping.{all_witnesses, one_witness, SendsStep, one_of, Halts}, Provings.RefusesToProveStep}
 use Rattle.p3_runs.specs.Provings.{RefusesToProveEnd, IsProverOutcome, where_carried, StartsHanded, AreHanded, FirstIs}
 use Rattle.p3_runs.specs.FollowingLaws.{length-more, on-finished, on-stands, on-picked, take_all, on-wires, on-drawn}
 use Rattle.p3_runs.specs.{Fronts.{IsFinished, AreLeast, pattern, seeded, seed, Run}, Values.{Challenge, Value}}
@@ -106,7 +106,7 @@ module _ {X S Symbol I F EF O Ac U D : Type 0} (rules : Rules S Symbol I F EF O 
             (rw f.stands at sends.chosen);
         stands = stands _ written;
         hands = rw (picked if_sent, append_assoc, sends.sent, ← uses) f.hands;
-        left = rest-handed (play x).place (play x).sides.IsHanded (AreHanded play (drop (i + 1) script.steps)) given
+        left = rest-handed (play x).place (play x).IsHanded (AreHanded play (drop (i + 1) script.steps)) given
             (drop k sent) (rw (at, uses) at f.left);
         witnesses_is = rw (picked if_witness, witnesses-append, witnesses-one, sends.found, f.witnesses_is) refl;
         carried_is = rw (picked if_carried, witnesses-append, one-carried (play x).place v w sends.found, f.carried_is) refl;
@@ -117,20 +117,20 @@ module _ {X S Symbol I F EF O Ac U D : Type 0} (rules : Rules S Symbol I F EF O 
   pub proves-next : (script : Run X F EF S U D) (sent : List (Value F EF)) (i j : ℕ) (now : Driving S)
       (witnesses carried : List F) (drawn : List (Challenge F EF)) (x : X) →
       drop i script.steps ≡ x ∷ drop (i + 1) script.steps → Proves script sent i j now witnesses carried drawn →
-      StartsHanded (play x).place (play x).sides.IsHanded (drop j sent)
+      StartsHanded (play x).place (play x).IsHanded (drop j sent)
   proves-next script sent i j now witnesses carried drawn x at f =
-      first-handed (play x).place (play x).sides.IsHanded (AreHanded play (drop (i + 1) script.steps)) (drop j sent)
+      first-handed (play x).place (play x).IsHanded (AreHanded play (drop (i + 1) script.steps)) (drop j sent)
       (rw at at f.left)
 
   -- ---- a step is refused
 
-  pub proves-refused : (script : Run X F EF S U D) (sent : List (Value F EF)) (i j : ℕ) (here there : Driving S)
+  pub proves-refused : (sides : X → Sides S F EF) (script : Run X F EF S U D) (sent : List (Value F EF)) (i j : ℕ) (here there : Driving S)
       (witnesses carried : List F) (drawn : List (Challenge F EF)) (x : X) (given : Value F EF)
       (unused : List (Value F EF)) (e : TranscriptError) → drop i script.steps ≡ x ∷ drop (i + 1) script.steps →
-      drop j sent ≡ if_sent (play x).place given ++ unused → (play x).sides.IsHanded given →
+      drop j sent ≡ if_sent (play x).place given ++ unused → (play x).IsHanded given →
       Proves script sent i j here witnesses carried drawn →
-      (play x).sides.prover given here e there ⊎ Halts here e there → RefusesToProveStep rules play script sent i e
-  proves-refused script sent i j here there witnesses carried drawn x given unused e at uses handed f refuses =
+      (sides x).prover given here e there ⊎ Halts here e there → RefusesToProveStep rules play sides script sent i e
+  proves-refused sides script sent i j here there witnesses carried drawn x given unused e at uses handed f refuses =
       record {
         before = f.before;
         step = x;

@@ -5,7 +5,7 @@ use Rattle.p3_patterns.specs.Playing.{FaultOfPlayEnd, IsPatternError}
 use Rattle.p3_driver_core.specs.Driving.{Driving, RefusesStart}
 use Rattle.p3_runs.specs.{Runs.if_sent, Fronts.{IsFinished, challenges, AreLeast, IsWhole, seed, wire, last, Run}}
 use Rattle.p3_runs.specs.{Plays.{Carried, Place, Play, Sent}, Values.{Challenge, Value}, Rules.Rules}
-use Rattle.p3_runs.specs.{Stepping.{all_witnesses, OrHalts}, Verdicts.{driving_after, playing_after, with_steps}}
+use Rattle.p3_runs.specs.{Sides.Sides, Stepping.{all_witnesses, OrHalts}, Verdicts.{driving_after, playing_after, with_steps}}
 use Rattle.p3_runs.specs.Runs as runs
 
 -- if the prover is handed a value for a step, the first value is one, and this holds of the others
@@ -23,7 +23,7 @@ module _ {X S Symbol F EF O : Type 0} (play : X → Play S Symbol F EF O) where
   -- There is one value for each step that the prover is handed a value for. Each is of its step's type and, where the
   -- step fixes a length, of that length.
   abbrev pub AreHanded : List X → List (Value F EF) → Type 0
-  AreHanded steps values = AreAmong (λ x. (play x).place) (λ x. (play x).sides.IsHanded) steps values
+  AreHanded steps values = AreAmong (λ x. (play x).place) (λ x. (play x).IsHanded) steps values
 
 module _ {X S Symbol I F EF O Ac U D : Type 0} (rules : Rules S Symbol I F EF O Ac) (play : X → Play S Symbol F EF O) where
   -- The run of a prover that is handed these values. It is finished and plays the whole pattern, its steps have these
@@ -34,8 +34,21 @@ module _ {X S Symbol I F EF O Ac U D : Type 0} (rules : Rules S Symbol I F EF O 
     pub handed : sent ≡ runs.handed play run.steps run.values
     pub least : AreLeast rules play run
 
-  -- ---- where and why a prover refuses
+  -- The end is refused: all steps were played, and steps of the pattern are left.
+  pub record RefusesToProveEnd (script : Run X F EF S U D) (sent : List (Value F EF)) (position : ℕ)
+      (e : TranscriptError) : Type 0 where
+    pub place : position ≡ length script.steps
+    pub values : List (Value F EF)
+    pub finished : IsFinished rules play (with_steps script script.steps values)
+    pub least : AreLeast rules play (with_steps script script.steps values)
+    pub handed : sent ≡ runs.handed play script.steps values
+    pub refuses : IsPatternError
+        (λ m. FaultOfPlayEnd (playing_after (with_steps script script.steps values)) (pattern_error_of m)) e
 
+-- ---- where and why a prover refuses, by its refusals of each step
+
+module _ {X S Symbol I F EF O Ac U D : Type 0} (rules : Rules S Symbol I F EF O Ac) (play : X → Play S Symbol F EF O)
+    (sides : X → Sides S F EF) where
   -- A step is refused. It comes with this value after a finished prefix, each of whose witnesses is the least.
   pub record RefusesToProveStep (script : Run X F EF S U D) (sent : List (Value F EF)) (position : ℕ)
       (e : TranscriptError) : Type 0 where
@@ -49,28 +62,17 @@ module _ {X S Symbol I F EF O Ac U D : Type 0} (rules : Rules S Symbol I F EF O 
     pub least : AreLeast rules play (with_steps script before values)
     pub given : Value F EF
     pub unused : List (Value F EF)
-    pub is_handed : (play step).sides.IsHanded given
+    pub is_handed : (play step).IsHanded given
     pub handed : sent ≡ runs.handed play before values ++ (if_sent (play step).place given ++ unused)
     pub after : Driving S
-    pub refuses : OrHalts ((play step).sides.prover given)
+    pub refuses : OrHalts ((sides step).prover given)
         (driving_after rules play (with_steps script before values) (runs.wires play before values)) e after
-
-  -- The end is refused: all steps were played, and steps of the pattern are left.
-  pub record RefusesToProveEnd (script : Run X F EF S U D) (sent : List (Value F EF)) (position : ℕ)
-      (e : TranscriptError) : Type 0 where
-    pub place : position ≡ length script.steps
-    pub values : List (Value F EF)
-    pub finished : IsFinished rules play (with_steps script script.steps values)
-    pub least : AreLeast rules play (with_steps script script.steps values)
-    pub handed : sent ≡ runs.handed play script.steps values
-    pub refuses : IsPatternError
-        (λ m. FaultOfPlayEnd (playing_after (with_steps script script.steps values)) (pattern_error_of m)) e
 
   -- the seed is refused, or a step, or the end
   abbrev pub RefusesToProve : Run X F EF S U D → List (Value F EF) → ℕ → TranscriptError → Type 0
   RefusesToProve script sent position e =
       ((position ≡ 0) × RefusesStart (rules.alphabet.is_too_long (length (seed rules play script))) e)
-      ⊎ RefusesToProveStep script sent position e ⊎ RefusesToProveEnd script sent position e
+      ⊎ RefusesToProveStep script sent position e ⊎ RefusesToProveEnd rules play script sent position e
 
 -- ---- the results of a prover
 

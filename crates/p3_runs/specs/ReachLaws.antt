@@ -6,7 +6,7 @@ use Rattle.p3_fs_core.specs.declared.error.TranscriptError.TheVariants.{OutOfMem
 use Rattle.p3_driver_core.specs.{Driving.Driving, Transcripts.IsNext}
 use Rattle.p3_runs.specs.{FrontLaws.{next-fits, no_values-left, front-fits, front-next}, Plays.{Play, Place, Carried}}
 use Rattle.p3_runs.specs.{Fronts.{Run, IsFinished, seeded}, Rules.Rules, Runs.{if_carried, Finishes, interactions}}
-use Rattle.p3_runs.specs.{RunLaws.{AreCanonical, GoesOn, front-of_run}, Values.{Value, Witness}}
+use Rattle.p3_runs.specs.{RunLaws.{AreCanonical, GoesOn, front-of_run}, Sides.Sides, Values.{Value, Witness}}
 use Rattle.p3_runs.specs.Stepping.{IsCarriedTo, OrHalts, one_witness, all_witnesses, IsCanonical, IsTakenWherePossible}
 use Rattle.p3_runs.specs.Verdicts.{with_steps, driving_after}
 use Rattle.p3_runs.specs.Runs as runs
@@ -58,13 +58,13 @@ module _ {X S Symbol I F EF O Ac U D : Type 0} (rules : Rules S Symbol I F EF O 
           on.carries,
         )
 
-    module _ (taken : (x : X) → FitsLength (play x).interaction.length → (play x).admitted → IsTakenWherePossible (play x))
+    module _ (sides : X → Sides S F EF) (taken : (x : X) → FitsLength (play x).interaction.length → (play x).admitted → IsTakenWherePossible (play x) (sides x))
       where
         first-taken : (x : X) (later : List X) (more : List (Value F EF)) (witness : Option F)
             (unused unspent : List (Value F EF)) (here there : Driving S) (after : List ℕ) (e : TranscriptError) →
             IsNext here.transcript.playing (play x).interaction → FitsLength (play x).interaction.length →
             (play x).admitted → IsCarriedTo (play x).place witness →
-            OrHalts ((play x).sides.verifier witness) here e there →
+            OrHalts ((sides x).verifier witness) here e there →
             Finishes play (x ∷ later) more here.transcript.challenger →
             here.bytes ≡ runs.wires play (x ∷ later) more ++ after →
             one_witness witness ++ unused ≡ runs.carried play (x ∷ later) more ++ unspent → e ≡ OutOfMemory
@@ -91,7 +91,7 @@ module _ {X S Symbol I F EF O Ac U D : Type 0} (rules : Rules S Symbol I F EF O 
             (play x).admitted → IsCarriedTo (play x).place witness →
             Reaches front done left (one_witness witness ++ unused) →
             Reaches (front ++ (x ∷ later)) values after unspent →
-            OrHalts ((play x).sides.verifier witness) (driving_after rules play (with_steps script front done) left) e there →
+            OrHalts ((sides x).verifier witness) (driving_after rules play (with_steps script front done) left) e there →
             e ≡ OutOfMemory
         passed-step front x later done values left after witness unused unspent there e may brought short long refuses =
             let on = goes-on front (x ∷ later) done values left after (one_witness witness ++ unused) unspent short long in

@@ -9,7 +9,7 @@ use Rattle.p3_patterns.specs.Playing.{Playing, FaultOfPlayEnd, IsPatternError}
 use Rattle.p3_driver_core.specs.{Driving.{Driving, RefusesStart}, Transcripts.IsNext}
 use Rattle.p3_runs.specs.FrontLaws.{no_values-left, next-admitted, front-fits, front-next, next-fits, get-past}
 use Rattle.p3_runs.specs.{Provings.{RefusesToProveStep, RefusesToProve, IsProverRun}, Values.Value}
-use Rattle.p3_runs.specs.{Stepping.{IsSentWherePossible, IsDetermined, OrHalts}, Rules.Rules, Plays.{Place, Play, Sent}}
+use Rattle.p3_runs.specs.{Sides.Sides, Stepping.{IsSentWherePossible, IsDetermined, OrHalts}, Rules.Rules, Plays.{Place, Play, Sent}}
 use Rattle.p3_runs.specs.{Runs.{AreChosen, Finishes, if_sent}, Fronts.{IsFinished, AreLeast, seeded, Run}}
 use Rattle.p3_runs.specs.Verdicts.{driving_after, playing_after, with_steps}
 use Rattle.p3_runs.specs.Runs as runs
@@ -46,9 +46,9 @@ module _ {X S Symbol F EF O : Type 0} (play : X → Play S Symbol F EF O) where
 
   -- An admitted step that may be played, and whose length a pattern can have, is refused only when out of memory. Of
   -- the list of steps only the type is read.
-  abbrev pub AreRefusedForMemory : List X → Type 0
-  AreRefusedForMemory steps =
-      (x : X) → FitsLength (play x).interaction.length → (play x).admitted → IsSentWherePossible (play x)
+  abbrev pub AreRefusedForMemory : (X → Sides S F EF) → List X → Type 0
+  AreRefusedForMemory sides steps =
+      (x : X) → FitsLength (play x).interaction.length → (play x).admitted → IsSentWherePossible (play x) (sides x)
 
   -- A prover's run continues a prefix that was handed all values except these, of which those are left after it.
   pub record GoesOnSent (front later : List X) (done values : List (Value F EF)) (s : S)
@@ -85,20 +85,20 @@ module _ {X S Symbol F EF O : Type 0} (play : X → Play S Symbol F EF O) where
   front-of_sent _ later _ values s unused unspent told h c run chosen hands = absurd h
 
   -- a step that a run continues with is refused only when out of memory
-  step-memory : (x : X) (later : List X) (more : List (Value F EF)) (here there : Driving S) (given : Value F EF)
-      (unused unspent : List (Value F EF)) (e : TranscriptError) → IsSentWherePossible (play x) →
-      (play x).sides.IsHanded given → OrHalts ((play x).sides.prover given) here e there →
+  step-memory : (sides : X → Sides S F EF) (x : X) (later : List X) (more : List (Value F EF)) (here there : Driving S) (given : Value F EF)
+      (unused unspent : List (Value F EF)) (e : TranscriptError) → IsSentWherePossible (play x) (sides x) →
+      (play x).IsHanded given → OrHalts ((sides x).prover given) here e there →
       IsNext here.transcript.playing (play x).interaction →
       Finishes play (x ∷ later) more here.transcript.challenger →
       AreChosen play (x ∷ later) more here.transcript.challenger →
       if_sent (play x).place given ++ unused ≡ runs.handed play (x ∷ later) more ++ unspent → e ≡ OutOfMemory
-  step-memory x later [] here there given unused unspent e law handed refuses next run chosen hands = absurd run
-  step-memory x later (v ∷ more) here there given unused unspent e law handed (inl refuses) next run chosen hands =
+  step-memory sides x later [] here there given unused unspent e law handed refuses next run chosen hands = absurd run
+  step-memory sides x later (v ∷ more) here there given unused unspent e law handed (inl refuses) next run chosen hands =
       let both = sent-split (play x).place given v unused (runs.handed play later more ++ unspent)
       (rw append_assoc at hands) in
       law.only_memory given v here there e handed refuses (sym both.0)
       (record { is_next = next; fits = run.0; short = run.1; gives = run.2; chosen = chosen.0 })
-  step-memory x later (v ∷ more) here there given unused unspent e law handed (inr halts) next run chosen hands = halts.0
+  step-memory sides x later (v ∷ more) here there given unused unspent e law handed (inr halts) next run chosen hands = halts.0
 
 module _ {X S Symbol I F EF O Ac U D : Type 0} (rules : Rules S Symbol I F EF O Ac) (play : X → Play S Symbol F EF O) where
   -- The values that a prover is handed begin with those of a finished prefix, and these are left after it.
@@ -127,47 +127,47 @@ module _ {X S Symbol I F EF O Ac U D : Type 0} (rules : Rules S Symbol I F EF O 
       let none = no_values-left play on.more _ on.finishes in (rw (none, append-nil) at on.split, on.rest)
 
   -- a step within a longer prefix is refused only when out of memory
-  pub passed-sent : (script : Run X F EF S U D) (sent : List (Value F EF)) (front : List X) (x : X) (later : List X)
+  pub passed-sent : (sides : X → Sides S F EF) (script : Run X F EF S U D) (sent : List (Value F EF)) (front : List X) (x : X) (later : List X)
       (done values unused unspent : List (Value F EF)) (given : Value F EF) (there : Driving S) (e : TranscriptError) →
-      AreDetermined play front → AreRefusedForMemory play front → (play x).admitted → (play x).sides.IsHanded given →
+      AreDetermined play front → AreRefusedForMemory play sides front → (play x).admitted → (play x).IsHanded given →
       ReachesSent script sent front done (if_sent (play x).place given ++ unused) →
       ReachesSent script sent (front ++ (x ∷ later)) values unspent →
-      OrHalts ((play x).sides.prover given)
+      OrHalts ((sides x).prover given)
       (driving_after rules play (with_steps script front done) (runs.wires play front done)) e there → e ≡ OutOfMemory
-  passed-sent script sent front x later done values unused unspent given there e told law may handed short long refuses =
+  passed-sent sides script sent front x later done values unused unspent given there e told law may handed short long refuses =
       let on = goes-on_sent script sent front (x ∷ later) done values (if_sent (play x).place given ++ unused) unspent told
       short long in
-      step-memory play x later on.more
+      step-memory play sides x later on.more
       (driving_after rules play (with_steps script front done) (runs.wires play front done)) there given unused unspent e
       (law x (next-fits play front x later (front-fits rules play script (front ++ (x ∷ later)) values long.finished)) may)
       handed refuses (refl, front-next rules play script front x later values long.finished) on.finishes on.chosen
       on.rest
 
-  step-never : (script : Run X F EF S U D) (sent : List (Value F EF)) (position : ℕ) (e : TranscriptError) →
-      AreDetermined play script.steps → AreRefusedForMemory play script.steps → runs.AreAdmitted play script.steps →
-      RefusesToProveStep rules play script sent position e → (values : List (Value F EF)) →
+  step-never : (sides : X → Sides S F EF) (script : Run X F EF S U D) (sent : List (Value F EF)) (position : ℕ) (e : TranscriptError) →
+      AreDetermined play script.steps → AreRefusedForMemory play sides script.steps → runs.AreAdmitted play script.steps →
+      RefusesToProveStep rules play sides script sent position e → (values : List (Value F EF)) →
       IsProverRun rules play (with_steps script script.steps values) sent → e ≡ OutOfMemory
-  step-never script sent position e told law may r values run =
+  step-never sides script sent position e told law may r values run =
       let whole : ReachesSent script sent script.steps values [] = record {
         finished = run.finished;
         least = run.least;
         handed = run.handed ∙ sym (append-nil (runs.handed play script.steps values));
       } in
-      passed-sent script sent r.before r.step r.later r.values values r.unused [] r.given r.after e
+      passed-sent sides script sent r.before r.step r.later r.values values r.unused [] r.given r.after e
       told law (next-admitted play r.before r.step r.later (subst (runs.AreAdmitted play) r.steps may)) r.is_handed
       (record { finished = r.finished; least = r.least; handed = r.handed })
       (subst (λ l. ReachesSent script sent l values []) r.steps whole) r.refuses
 
   -- Where a prover refuses, except when out of memory, no values are the script's.
-  pub refused-never : (script : Run X F EF S U D) (sent : List (Value F EF)) (position : ℕ) (e : TranscriptError) →
-      AreDetermined play script.steps → AreRefusedForMemory play script.steps → runs.AreAdmitted play script.steps →
-      RefusesToProve rules play script sent position e →
+  pub refused-never : (sides : X → Sides S F EF) (script : Run X F EF S U D) (sent : List (Value F EF)) (position : ℕ) (e : TranscriptError) →
+      AreDetermined play script.steps → AreRefusedForMemory play sides script.steps → runs.AreAdmitted play script.steps →
+      RefusesToProve rules play sides script sent position e →
       (e ≡ OutOfMemory → ⊥) → (values : List (Value F EF)) →
       IsProverRun rules play (with_steps script script.steps values) sent → ⊥
-  refused-never script sent position e told law may (inl start) other values run =
+  refused-never sides script sent position e told law may (inl start) other values run =
       start-never _ e start.1 other run.finished.seed_fits
-  refused-never script sent position e told law may (inr (inl r)) other values run =
-      other (step-never script sent position e told law may r values run)
-  refused-never script sent position e told law may (inr (inr r)) other values run =
+  refused-never sides script sent position e told law may (inr (inl r)) other values run =
+      other (step-never sides script sent position e told law may r values run)
+  refused-never sides script sent position e told law may (inr (inr r)) other values run =
       let long = sym (length-map script.steps (λ y. (play y).interaction)) ∙ ap length run.whole in
       end-never (playing_after script) e refl long r.refuses

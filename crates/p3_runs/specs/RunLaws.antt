@@ -61,7 +61,7 @@ module _ {X S Symbol F EF O : Type 0} (play : X → Play S Symbol F EF O) where
 
   pub chosen-more : (steps : List X) (values : List (Value F EF)) (s : S) (x : X) (v : Value F EF) →
       AreMatched steps values → AreChosen play steps values s →
-      (play x).sides.IsChosen (after play steps values s) v →
+      (play x).IsChosen (after play steps values s) v →
       AreChosen play (steps ++ x ∷ []) (values ++ v ∷ []) s
   chosen-more [] [] s x v h chosen last = (last, tt)
   chosen-more (y ∷ steps) (w ∷ values) s x v h chosen last =

@@ -96,7 +96,7 @@ module _ {X S Symbol F EF O : Type 0} (play : X → Play S Symbol F EF O) where
   -- each witness that a prover finds is the least one that passes
   abbrev pub AreChosen : List X → List (Value F EF) → S → Type 0
   AreChosen (x ∷ steps) (v ∷ values) s =
-      (play x).sides.IsChosen s v × AreChosen steps values (((play x).effect v).after s)
+      (play x).IsChosen s v × AreChosen steps values (((play x).effect v).after s)
   AreChosen _ _ s = Unit {0}
 
   -- how many witnesses the caller carries

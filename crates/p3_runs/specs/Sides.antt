@@ -1,23 +1,19 @@
 -- The refusals of a script's step by the two sides of a transcript.
 use Rattle.std.specs.Prelude.{◌≡◌, ℕ, ◌≤◌, ◌⊎◌, Option, Some, None}
 use Rattle.p3_fs_core.specs.{Encoding.Encoding, declared.error.TranscriptError.TranscriptError}
-use Rattle.p3_grinding.specs.Checks.{IsLeast}
 use Rattle.p3_driver_core.specs.{Driving.Driving, Proving.{RefusesToWrite, RefusesLongList, Unwritten}}
 use Rattle.p3_driver_core.specs.{Reads.received_work, Transcripts.{Meaning, RefusesStep}}
 use Rattle.p3_driver_core.specs.{Verifying.{RefusesToRead, FailsWork}, Working.{Work, RefusesToGrind, RefusesToCheck}}
 use Rattle.p3_step_laws.specs.OneReason.{RefusesCarriedOrStep, RefusesRecordedOrStep}
-use Rattle.p3_runs.specs.Values.{Value, IsNothing, witness_in}
+use Rattle.p3_runs.specs.{Plays.{Play, meaning}, Values.{Nothing, Value}}
 
 -- a relation of a side at a step: its state before, the error, and its state after
 abbrev pub Refusing : Type 0 → Type 1
 Refusing S = Driving S → TranscriptError → Driving S → Type 0
 
--- The two sides at a step. A prover has the value handed to it, its choice if it has one, and its reasons to refuse
--- the step, given that value. A verifier has its reasons to refuse the step, given the witness that its caller
--- carries, if any.
+-- The refusals of a step by its two sides. Those of a prover depend on the value that it was handed. Those of a verifier
+-- depend on the witness that its caller carries, if any.
 pub record Sides (S F EF : Type 0) : Type 1 where
-  pub IsHanded : Value F EF → Type 0
-  pub IsChosen : S → Value F EF → Type 0
   pub prover : Value F EF → Refusing S
   pub verifier : Option F → Refusing S
 
@@ -25,10 +21,6 @@ pub record Sides (S F EF : Type 0) : Type 1 where
 abbrev pub refuses_some : {S A : Type 0} → (A → Refusing S) → Option A → Refusing S
 refuses_some refuses None before e after = ⊥
 refuses_some refuses (Some x) before e after = refuses x before e after
-
-abbrev pub holds_some : {A : Type 0} → (A → Type 0) → Option A → Type 0
-holds_some P None = ⊥
-holds_some P (Some x) = P x
 
 -- ---- why a side refuses
 
@@ -77,40 +69,27 @@ RefusesCarriedWork work x before e after =
 
 -- ---- the sides of a step
 
--- there is no choice
-abbrev pub NoChoice : {S F EF : Type 0} → S → Value F EF → Type 0
-NoChoice s v = Unit {0}
-
 -- both sides know the value
 abbrev pub sides_known : {S F EF : Type 0} → Refusing S → Refusing S → Sides S F EF
-sides_known proving verifying =
-    record { IsHanded = IsNothing; IsChosen = NoChoice; prover = λ _. proving; verifier = λ _. verifying }
+sides_known proving verifying = record { prover = λ _. proving; verifier = λ _. verifying }
+
+-- both sides refuse the step alike, and leave the bytes of the proof as they are
+abbrev pub sides_alike : {S Symbol F EF O : Type 0} → Play S Symbol F EF O → Sides S F EF
+sides_alike play = sides_known (RefusesKept (meaning play Nothing)) (RefusesKept (meaning play Nothing))
 
 -- the prover is handed the value and sends it, and the verifier reads it
-abbrev pub sides_sent : {S F EF A : Type 0} → (Value F EF → Option A) → (A → Type 0) → (A → Refusing S) → Refusing S →
-    Sides S F EF
-sides_sent found IsHanded proving verifying = record {
-  IsHanded = λ v. holds_some IsHanded (found v);
-  IsChosen = NoChoice;
-  prover = λ v. refuses_some proving (found v);
-  verifier = λ _. verifying;
-}
-
--- the least witness that passes
-abbrev pub IsLeastWitness : {S Symbol F EF : Type 0} → Work S Symbol F → S → Value F EF → Type 0
-IsLeastWitness work s v = holds_some (IsLeast work.residues work.check s) (witness_in v)
-
--- a witness that the prover finds
-abbrev pub sides_found : {S Symbol F EF : Type 0} → Work S Symbol F → Refusing S → (Option F → Refusing S) → Sides S F EF
-sides_found work proving verifying =
-    record { IsHanded = IsNothing; IsChosen = IsLeastWitness work; prover = λ _. proving; verifier = verifying }
+abbrev pub sides_sent : {S F EF A : Type 0} → (Value F EF → Option A) → (A → Refusing S) → Refusing S → Sides S F EF
+sides_sent found proving verifying =
+    record { prover = λ v. refuses_some proving (found v); verifier = λ _. verifying }
 
 -- a witness that the prover finds and the verifier reads
 abbrev pub sides_ground : {S Symbol F EF : Type 0} → Work S Symbol F → Encoding F → (S → Type 0) → Sides S F EF
 sides_ground work enc may_run_out =
-    sides_found work (RefusesToGrindAndWrite work enc may_run_out) (λ _. RefusesToReadWork work enc)
+    record { prover = λ _. RefusesToGrindAndWrite work enc may_run_out; verifier = λ _. RefusesToReadWork work enc }
 
 -- a witness that the prover finds and the verifier's caller carries
 abbrev pub sides_carried : {S Symbol F EF : Type 0} → Work S Symbol F → (S → Type 0) → Sides S F EF
-sides_carried work may_run_out =
-    sides_found work (RefusesToGrindAndKeep work may_run_out) (refuses_some (RefusesCarriedWork work))
+sides_carried work may_run_out = record {
+  prover = λ _. RefusesToGrindAndKeep work may_run_out;
+  verifier = refuses_some (RefusesCarriedWork work);
+}

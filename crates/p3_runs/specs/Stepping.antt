@@ -45,7 +45,7 @@ pub record SendsStep {S Symbol F EF O : Type 0} (play : Play S Symbol F EF O) (h
   pub fits : play.Fits value
   pub sent : if_sent play.place value ≡ handed
   pub found : if_witness play.place value ≡ one_witness witness
-  pub chosen : play.sides.IsChosen before.transcript.challenger value
+  pub chosen : play.IsChosen before.transcript.challenger value
   pub plays : PlaysStep (meaning play value) before.transcript drawn after.transcript
   pub written : after.bytes ≡ before.bytes ++ play.wire value
 
@@ -77,7 +77,7 @@ pub record CanSend {S Symbol F EF O : Type 0} (play : Play S Symbol F EF O) (bef
   pub fits : play.Fits v
   pub short : (play.effect v).fits
   pub gives : IsSome ((play.effect v).gives before.transcript.challenger)
-  pub chosen : play.sides.IsChosen before.transcript.challenger v
+  pub chosen : play.IsChosen before.transcript.challenger v
 
 -- ---- laws of a step
 
@@ -91,20 +91,20 @@ pub record IsCanonical {S Symbol F EF O : Type 0} (play : Play S Symbol F EF O) 
 -- handed.
 pub record IsDetermined {S Symbol F EF O : Type 0} (play : Play S Symbol F EF O) : Type 0 where
   pub one_way : (v w : Value F EF) (s : S) → play.Fits v → play.Fits w → if_sent play.place v ≡ if_sent play.place w →
-      play.sides.IsChosen s v → play.sides.IsChosen s w → v ≡ w
-  pub one_handed : (v w : Value F EF) → play.sides.IsHanded v → play.sides.IsHanded w →
+      play.IsChosen s v → play.IsChosen s w → v ≡ w
+  pub one_handed : (v w : Value F EF) → play.IsHanded v → play.IsHanded w →
       if_sent play.place v ≡ if_sent play.place w → v ≡ w
 
 -- A verifier refuses the step only when out of memory, if the step may be played with a value.
-pub record IsTakenWherePossible {S Symbol F EF O : Type 0} (play : Play S Symbol F EF O) : Type 0 where
+pub record IsTakenWherePossible {S Symbol F EF O : Type 0} (play : Play S Symbol F EF O) (sides : Sides S F EF) : Type 0 where
   pub only_memory : (witness : Option F) (before after : Driving S) (e : TranscriptError) (v : Value F EF) →
-      play.sides.verifier witness before e after → if_carried play.place v ≡ one_witness witness →
+      sides.verifier witness before e after → if_carried play.place v ≡ one_witness witness →
       CanTake play before v → e ≡ OutOfMemory
 
 -- A prover refuses the step only when out of memory, if the step may be played with the value handed to the prover.
-pub record IsSentWherePossible {S Symbol F EF O : Type 0} (play : Play S Symbol F EF O) : Type 0 where
+pub record IsSentWherePossible {S Symbol F EF O : Type 0} (play : Play S Symbol F EF O) (sides : Sides S F EF) : Type 0 where
   pub only_memory : (given v : Value F EF) (before after : Driving S) (e : TranscriptError) →
-      play.sides.IsHanded given → play.sides.prover given before e after →
+      play.IsHanded given → sides.prover given before e after →
       if_sent play.place v ≡ if_sent play.place given → CanSend play before v → e ≡ OutOfMemory
 
 -- Each side refuses a step for one reason, whatever its caller carries or it is handed. Any two errors from one state,

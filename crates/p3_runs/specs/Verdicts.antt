@@ -6,7 +6,8 @@ use Rattle.p3_domain_separator.specs.declared.domain_separator.DomainSeparator.{
 use Rattle.p3_patterns.specs.Playing.{Playing}
 use Rattle.p3_driver_core.specs.{Driving.{Driving, RefusesStart}, Verifying.RefusesEnd}
 use Rattle.p3_runs.specs.{Fronts.{Run, IsFinished, IsWhole, seed, wire, challenges, last}, Plays.Play, Rules.Rules}
-use Rattle.p3_runs.specs.{Stepping.{OrHalts, one_witness, all_witnesses, IsCarriedTo}, Values.{Value, Challenge}}
+use Rattle.p3_runs.specs.{Sides.Sides, Stepping.{OrHalts, one_witness, all_witnesses, IsCarriedTo}}
+use Rattle.p3_runs.specs.Values.{Value, Challenge}
 use Rattle.p3_runs.specs.Runs as runs
 
 -- the run with these values at these steps, under the same separator and from the same challenger
@@ -57,8 +58,21 @@ module _ {X S Symbol I F EF O Ac U D : Type 0} (rules : Rules S Symbol I F EF O 
   driving_after front bytes =
       record { transcript = record { challenger = last rules play front; playing = playing_after front }; bytes = bytes }
 
-  -- ---- where and why a verifier refuses a proof
+  -- The end is refused: all steps were played, and steps of the pattern are left, or bytes.
+  pub record RefusesAtEnd (script : Run X F EF S U D) (bytes : List ℕ) (carried : List F) (position : ℕ)
+      (e : TranscriptError) : Type 0 where
+    pub place : position ≡ length script.steps
+    pub values : List (Value F EF)
+    pub finished : IsFinished rules play (with_steps script script.steps values)
+    pub left : List ℕ
+    pub read : bytes ≡ runs.wires play script.steps values ++ left
+    pub carries : all_witnesses carried ≡ runs.carried play script.steps values
+    pub refuses : RefusesEnd (driving_after (with_steps script script.steps values) left) e
 
+-- ---- where and why a verifier refuses a proof, by its refusals of each step
+
+module _ {X S Symbol I F EF O Ac U D : Type 0} (rules : Rules S Symbol I F EF O Ac) (play : X → Play S Symbol F EF O)
+    (sides : X → Sides S F EF) where
   -- A step is refused. The proof begins with the bytes of a finished prefix, and the carried witnesses with those of
   -- the prefix. The step follows, and is refused there.
   pub record RefusesAtStep (script : Run X F EF S U D) (bytes : List ℕ) (carried : List F) (position : ℕ)
@@ -77,22 +91,11 @@ module _ {X S Symbol I F EF O Ac U D : Type 0} (rules : Rules S Symbol I F EF O 
     pub brought : IsCarriedTo (play step).place witness
     pub carries : all_witnesses carried ≡ runs.carried play before values ++ (one_witness witness ++ unused)
     pub after : Driving S
-    pub refuses : OrHalts ((play step).sides.verifier witness)
-        (driving_after (with_steps script before values) left) e after
-
-  -- The end is refused: all steps were played, and steps of the pattern or bytes are left.
-  pub record RefusesAtEnd (script : Run X F EF S U D) (bytes : List ℕ) (carried : List F) (position : ℕ)
-      (e : TranscriptError) : Type 0 where
-    pub place : position ≡ length script.steps
-    pub values : List (Value F EF)
-    pub finished : IsFinished rules play (with_steps script script.steps values)
-    pub left : List ℕ
-    pub read : bytes ≡ runs.wires play script.steps values ++ left
-    pub carries : all_witnesses carried ≡ runs.carried play script.steps values
-    pub refuses : RefusesEnd (driving_after (with_steps script script.steps values) left) e
+    pub refuses : OrHalts ((sides step).verifier witness)
+        (driving_after rules play (with_steps script before values) left) e after
 
   -- the seed is refused, or a step, or the end
   abbrev pub RefusesProof : Run X F EF S U D → List ℕ → List F → ℕ → TranscriptError → Type 0
   RefusesProof script bytes carried position e =
       ((position ≡ 0) × RefusesStart (rules.alphabet.is_too_long (length (seed rules play script))) e)
-      ⊎ RefusesAtStep script bytes carried position e ⊎ RefusesAtEnd script bytes carried position e
+      ⊎ RefusesAtStep script bytes carried position e ⊎ RefusesAtEnd rules play script bytes carried position e

@@ -4,7 +4,7 @@ use Rattle.std.{proofs.Common.{append_assoc, arith}, specs.List.flat_map}
 use Rattle.p3_challenger_core.specs.{Reading.IsPrefixCode, SymbolLaws.{row-prefix_code, as_many-prefix_code}}
 use Rattle.p3_fs_core.specs.{BigEndian.{big_endian, in_bytes, count_width, count_bytes}, CountLaws.count_width-enough}
 use Rattle.p3_fs_core.specs.{BigEndianLaws.{big_endian-in_bytes, length-in_bytes}, StepFits.FitsLength}
-use Rattle.p3_runs.specs.{Plays.{Play, when_some}, Runs.if_carried, Rules.Rules, Sides.holds_some, Stepping.IsCanonical}
+use Rattle.p3_runs.specs.{Plays.{Play, holds_some, when_some}, Runs.if_carried, Rules.Rules, Stepping.IsCanonical}
 use Rattle.p3_runs.specs.Values.{Value, Bytes, Scalar, Scalars, Extension, Witness, IsNothing, bytes_in, scalar_in}
 use Rattle.p3_runs.specs.Values.{scalars_in, extension_in, witness_in}
 use Rattle.p3_script.specs.Scripts.{play_of}

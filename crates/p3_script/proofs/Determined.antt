@@ -3,7 +3,7 @@ use Rattle.std.proofs.Common.{◌≡◌, [], ◌∷◌, ap, Bool, arith, rules}
 use Rattle.p3_challenger_core.specs.Sampling.{Sampling}
 use Rattle.p3_field_core.specs.Residues.{Residues, IsResidues}
 use Rattle.p3_grinding.specs.Checks.{IsLeast}
-use Rattle.p3_runs.specs.{Plays.Play, Rules.Rules, Runs.if_sent, Sides.holds_some, Stepping.IsDetermined}
+use Rattle.p3_runs.specs.{Plays.{Play, holds_some}, Rules.Rules, Runs.if_sent, Stepping.IsDetermined}
 use Rattle.p3_runs.specs.Values.{Value, IsNothing, Witness, witness_in}
 use Rattle.p3_script.{specs.Scripts.play_of, proofs.Canonical.nothing-one}
 use Rattle.p3_script.specs.declared.steps.Step as script
@@ -27,8 +27,8 @@ witness-one r law check s _ _ a b = search rules
 
 module _ {S Symbol F EF O : Type 0} (play : Play S Symbol F EF O) where
   -- it is nothing, or the least witness
-  unsent-determined : ((v w : Value F EF) (s : S) → play.Fits v → play.Fits w → play.sides.IsChosen s v →
-      play.sides.IsChosen s w → v ≡ w) → ((v : Value F EF) → play.sides.IsHanded v → IsNothing v) → IsDetermined play
+  unsent-determined : ((v w : Value F EF) (s : S) → play.Fits v → play.Fits w → play.IsChosen s v →
+      play.IsChosen s w → v ≡ w) → ((v : Value F EF) → play.IsHanded v → IsNothing v) → IsDetermined play
   unsent-determined one given =
       record {
         one_way = λ v w s f g same. one v w s f g;

@@ -28,10 +28,10 @@ pub same-one_reason : {S F EF : Type 0} (R : Refusing S) → TellOneReason R →
 same-one_reason R one = known-one_reason R R one one
 
 -- what is sent
-pub sent-one_reason : {S F EF A : Type 0} (found : Value F EF → Option A) (IsHanded : A → Type 0)
+pub sent-one_reason : {S F EF A : Type 0} (found : Value F EF → Option A)
     (proving : A → Refusing S) (verifying : Refusing S) → ((x : A) → TellOneReason (proving x)) →
-    TellOneReason verifying → RefuseForOneReason (sides_sent found IsHanded proving verifying)
-sent-one_reason found IsHanded proving verifying proves verifies =
+    TellOneReason verifying → RefuseForOneReason (sides_sent found proving verifying)
+sent-one_reason found proving verifying proves verifies =
     record { verifier = λ witness. halts-one_reason verifying verifies; prover = λ given. grind (arith, proves) }
 
 -- bytes are added

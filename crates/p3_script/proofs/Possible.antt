@@ -8,12 +8,15 @@ use Rattle.p3_fs_core.specs.declared.error.TranscriptError.TheVariants.{OutOfMem
 use Rattle.p3_driver_core.specs.{Reads.Reading, Working.{Work, RefusesToGrind, checking, where_passed}, Driving.Driving}
 use Rattle.p3_driver_core.specs.{TranscriptLaws.next-not_refused, Proving.RefusesToWrite, Effects.{Effect, untouched}}
 use Rattle.p3_driver_core.specs.Transcripts.{without_wire, step_on, Meaning, Transcript, PlaysStep, RefusesStep, IsNext}
+use Rattle.p3_driver_core.specs.Verifying.{RefusesToRead}
 use Rattle.p3_step_laws.specs.{Completeness.{CompletesWork, CompletesCarriedWork}, MemoryLaws.next-only_memory}
 use Rattle.p3_step_laws.specs.OneReason.{TellsLimits, OnlyMemoryRefusesToRead}
 use Rattle.p3_runs.specs.{Absorbed.Absorbed, Values.{Value, Challenge, Witness, IsNothing, witness_in}}
 use Rattle.p3_runs.specs.Plays.{no_challenge, Play, only_if, known, known_with, known_within, sends, sends_witness}
-use Rattle.p3_runs.specs.{Plays.carries_witness, Sides.{Refusing, refuses_some, sides_known, RefusesToWriteWithin}}
-use Rattle.p3_runs.specs.Sides.{RefusesWithin, RefusesCarriedWithin, RefusesCarriedWork, RefusesToReadWork}
+use Rattle.p3_runs.specs.Plays.{carries_witness}
+use Rattle.p3_runs.specs.Sides.{Refusing, Sides, refuses_some, sides_alike, sides_known, sides_sent, sides_ground}
+use Rattle.p3_runs.specs.Sides.{sides_carried, RefusesToWriteWithin, RefusesWithin, RefusesCarriedWithin}
+use Rattle.p3_runs.specs.Sides.{RefusesCarriedWork, RefusesToReadWork}
 use Rattle.p3_runs.specs.Stepping.{IsTakenWherePossible, IsSentWherePossible, CanTake, one_witness}
 use Rattle.p3_script.proofs.Canonical.{fitting}
 
@@ -24,9 +27,9 @@ mapped-some f o h = grind arith
 -- ---- what both sides know
 
 -- each side refuses a step only when out of memory where it may be played
-pub record IsRefusedForMemory {S Symbol F EF O : Type 0} (play : Play S Symbol F EF O) : Type 0 where
-  pub taken : IsTakenWherePossible play
-  pub sent : IsSentWherePossible play
+pub record IsRefusedForMemory {S Symbol F EF O : Type 0} (play : Play S Symbol F EF O) (sides : Sides S F EF) : Type 0 where
+  pub taken : IsTakenWherePossible play sides
+  pub sent : IsSentWherePossible play sides
 
 module _ {S Symbol F EF O A : Type 0} (condition : Type 0) (i : Step) (Fits : Value F EF → Type 0)
     (f : A → Option (Challenge F EF)) (E : Effect S Symbol A) (absorbed : Absorbed F O) (tells : TellsLimits E) where
@@ -45,7 +48,7 @@ module _ {S Symbol F EF O A : Type 0} (condition : Type 0) (i : Step) (Fits : Va
       (mapped-some f (E.gives before.transcript.challenger) gives) (same v before after e fits next refuses)
 
   pub known_with-refused : (proving verifying : Refusing S) → AsStep proving → AsStep verifying →
-      IsRefusedForMemory (only_if condition (known_with i Fits f E absorbed (sides_known proving verifying)))
+      IsRefusedForMemory (only_if condition (known_with i Fits f E absorbed)) (sides_known proving verifying)
   known_with-refused proving verifying unproved unverified =
       record {
         taken = record {
@@ -60,7 +63,7 @@ module _ {S Symbol F EF O A : Type 0} (condition : Type 0) (i : Step) (Fits : Va
 
 pub known-refused : {S Symbol F EF O A : Type 0} (condition : Type 0) (i : Step) (f : A → Option (Challenge F EF))
     (E : Effect S Symbol A) (absorbed : Absorbed F O) → TellsLimits E →
-    IsRefusedForMemory (only_if condition (known i f E absorbed))
+    IsRefusedForMemory (only_if condition (known i f E absorbed)) (sides_alike (known i f E absorbed))
 known-refused condition i f E absorbed tells =
     known_with-refused condition i IsNothing f E absorbed tells _ _ (λ v before after e fits next refuses. refuses.0)
     (λ v before after e fits next refuses. refuses.0)
@@ -82,8 +85,11 @@ module _ {S Symbol F EF O A : Type 0} (i : Step) (found : Value F EF → Option 
     (refused : (x : A) (before after : Driving S) (e : TranscriptError) → IsFit x →
     before.transcript.playing.finished ≡ false → proving x before e after → RefusesToWrite (sent x) before e after)
     (reads : (x : A) → IsFit x → OnlyMemoryRefusesToRead (sent x) reading x) where
+  abbrev sides : Sides S F EF
+  sides = sides_sent found proving (RefusesToRead reading)
+
   -- a verifier
-  sends-taken : IsTakenWherePossible (sends i found IsHanded IsFit sent absorbed proving reading)
+  sends-taken : IsTakenWherePossible (sends i found IsHanded IsFit sent absorbed) sides
   sends-taken =
       record {
         only_memory = λ witness before after e v refuses carried can.
@@ -97,7 +103,7 @@ module _ {S Symbol F EF O A : Type 0} (i : Step) (found : Value F EF → Option 
       }
 
   -- a prover, which was handed what it sends
-  sends-sent : IsSentWherePossible (sends i found IsHanded IsFit sent absorbed proving reading)
+  sends-sent : IsSentWherePossible (sends i found IsHanded IsFit sent absorbed) sides
   sends-sent =
       record {
         only_memory = λ given v before after e handed refuses same can.
@@ -111,7 +117,7 @@ module _ {S Symbol F EF O A : Type 0} (i : Step) (found : Value F EF → Option 
             (refused x.0 before after e x.2 can.is_next.0 here).refuses;
       }
 
-  pub sends-refused : IsRefusedForMemory (sends i found IsHanded IsFit sent absorbed proving reading)
+  pub sends-refused : IsRefusedForMemory (sends i found IsHanded IsFit sent absorbed) sides
   sends-refused = record { taken = sends-taken; sent = sends-sent }
 
 -- ---- proof of work
@@ -135,7 +141,7 @@ module _ {S Symbol F O : Type 0} (EF : Type 0) (condition there : Type 0) (work 
 
   module _ (enc : Encoding F) (laws : IsResidues work.residues) (completes : (x : F) → CompletesWork work enc x) where
     abbrev sent_play : Play S Symbol F EF O
-    sent_play = only_if condition (sends_witness work there enc may_run_out absorbed)
+    sent_play = only_if condition (sends_witness work there enc absorbed)
 
     witness-read : (v : Value F EF) (before after : Driving S) (e : TranscriptError) →
         RefusesToReadWork work enc before e after → CanTake sent_play before v → e ≡ OutOfMemory
@@ -145,7 +151,7 @@ module _ {S Symbol F O : Type 0} (EF : Type 0) (condition there : Type 0) (work 
         (λ k. record { transcript = before.transcript; bytes = can.next k }) refuses
     witness-read _ before after e refuses can = absurd can.fits
 
-    pub witness-refused : IsRefusedForMemory sent_play
+    pub witness-refused : IsRefusedForMemory sent_play (sides_ground work enc may_run_out)
     witness-refused =
         record {
           taken = record { only_memory = λ w before after e v refuses same. witness-read v before after e refuses };
@@ -162,7 +168,7 @@ module _ {S Symbol F O : Type 0} (EF : Type 0) (condition there : Type 0) (work 
 
   module _ (laws : IsResidues work.residues) (completes : (x : F) → CompletesCarriedWork work x) where
     abbrev carried_play : Play S Symbol F EF O
-    carried_play = only_if condition (carries_witness work there may_run_out absorbed)
+    carried_play = only_if condition (carries_witness work there absorbed)
 
     carried-checked : (witness : Option F) (v : Value F EF) (before after : Driving S) (e : TranscriptError) →
         refuses_some (RefusesCarriedWork work) witness before e after → v ∷ [] ≡ one_witness witness →
@@ -174,7 +180,7 @@ module _ {S Symbol F O : Type 0} (EF : Type 0) (condition there : Type 0) (work 
     carried-checked None _ before after e refuses same can = absurd refuses
     carried-checked _ _ before after e refuses same can = absurd can.fits
 
-    pub carried-refused : IsRefusedForMemory carried_play
+    pub carried-refused : IsRefusedForMemory carried_play (sides_carried work may_run_out)
     carried-refused =
         record {
           taken = record { only_memory = λ witness before after e v. carried-checked witness v before after e };
@@ -198,8 +204,8 @@ untouched-tells x = record { limit = λ s t h. absurd h; too_long = λ s t h fit
 
 -- a list that both sides know, of at most so many
 pub counted-refused : {S Symbol A F EF O : Type 0} (m : Meaning S Symbol A) (len max : ℕ) (absorbed : Absorbed F O) →
-    TellsLimits m.effect → IsRefusedForMemory (known_within {EF = EF} m.interaction len max m.effect absorbed
-    (RefusesWithin len max m) (RefusesCarriedWithin len max m))
+    TellsLimits m.effect → IsRefusedForMemory (known_within {EF = EF} m.interaction len max m.effect absorbed)
+    (sides_known (RefusesWithin len max m) (RefusesCarriedWithin len max m))
 counted-refused m len max absorbed tells =
     known_with-refused _ _ _ no_challenge _ _ tells _ _
     (λ v before after e is next refuses. grind arith) (λ v before after e is next refuses. grind arith)

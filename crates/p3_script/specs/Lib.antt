@@ -4,6 +4,7 @@ pub mod GroupDraws
 pub mod GroupLaws
 pub mod OneRun
 pub mod ScriptLaws
+pub mod ScriptRefusals
 pub mod Scripts
 pub mod Standings
 pub mod StepFamilies

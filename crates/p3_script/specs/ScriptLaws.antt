@@ -2,7 +2,7 @@
 use Rattle.p3_fs_core.specs.StepFits.{FitsLength}
 use Rattle.p3_runs.specs.{Rules.Rules, Faults.{ProofsTellOneFault, ProvingsTellOneFault}}
 use Rattle.p3_runs.specs.Stepping.{IsCanonical, IsDetermined, IsTakenWherePossible, IsSentWherePossible, RefuseForOneReason}
-use Rattle.p3_script.specs.Scripts.{play_of}
+use Rattle.p3_script.specs.{Scripts.play_of, ScriptRefusals.sides_of}
 use Rattle.p3_script.specs.declared.steps.Step as script
 
 module _ {S Symbol I F EF O Ac : Type 0} (Su U C K D G It St Sy : Type 0) (rules : Rules S Symbol I F EF O Ac) where
@@ -22,23 +22,25 @@ module _ {S Symbol I F EF O Ac : Type 0} (Su U C K D G It St Sy : Type 0) (rules
   abbrev pub AreTakenWherePossible : Type 0
   AreTakenWherePossible =
       (x : script.Step Su F EF U O C K Ac D G It St Sy) → FitsLength (play_of rules x).interaction.length →
-      (play_of rules x).admitted → IsTakenWherePossible (play_of rules x)
+      (play_of rules x).admitted → IsTakenWherePossible (play_of rules x) (sides_of rules x)
 
   abbrev pub AreSentWherePossible : Type 0
   AreSentWherePossible =
       (x : script.Step Su F EF U O C K Ac D G It St Sy) → FitsLength (play_of rules x).interaction.length →
-      (play_of rules x).admitted → IsSentWherePossible (play_of rules x)
+      (play_of rules x).admitted → IsSentWherePossible (play_of rules x) (sides_of rules x)
 
   -- an admitted step is refused for one reason
   abbrev pub AreRefusedForOneReason : Type 0
   AreRefusedForOneReason =
       (x : script.Step Su F EF U O C K Ac D G It St Sy) → (play_of rules x).admitted →
-      RefuseForOneReason (play_of rules x).sides
+      RefuseForOneReason (sides_of rules x)
 
   -- whole scripts are refused for one fault, whether to a verifier or to a prover
   abbrev pub ProofsHaveOneFault : Type 0
-  ProofsHaveOneFault = ProofsTellOneFault U D rules (λ (x : script.Step Su F EF U O C K Ac D G It St Sy). play_of rules x)
+  ProofsHaveOneFault = ProofsTellOneFault U D rules
+      (λ (x : script.Step Su F EF U O C K Ac D G It St Sy). play_of rules x) (sides_of rules)
 
   abbrev pub ProvingsHaveOneFault : Type 0
   ProvingsHaveOneFault =
       ProvingsTellOneFault U D rules (λ (x : script.Step Su F EF U O C K Ac D G It St Sy). play_of rules x)
+      (sides_of rules)

@@ -3,20 +3,18 @@ use Rattle.std.specs.Prelude.{ℕ, ◌≤◌, List, [], ◌∷◌, map, Option, 
 use Rattle.p3_challenger_core.specs.Sampling.{Sampling}
 use Rattle.p3_fs_core.specs.{Steps.{algebra_step, Step, marker_of}, declared.step.Hierarchy.Hierarchy}
 use Rattle.p3_fs_core.specs.declared.step.{Hierarchy.TheVariants.{Begin, End}, Kind.Kind}
-use Rattle.p3_driver_core.specs.{Effects.{untouched, observing, drawing, drawing_list}, Proving.RefusesToWrite}
+use Rattle.p3_driver_core.specs.Effects.{untouched, observing, drawing, drawing_list}
 use Rattle.p3_driver_core.specs.Transcripts.{Meaning, bytes_step, opaque_step, bits_step, uniform_bits_step}
 use Rattle.p3_driver_core.specs.{Rejecting.drawing_rejecting, Working.{Work, work_of}}
 use Rattle.p3_runs.specs.{Absorbed.{Absorbed, Nothing, Bytes, Elements, Own, witness_of}, Rules.{Rules, Coding}}
-use Rattle.p3_runs.specs.Plays.{Play, known, known_with, known_within, sends, sends_witness, carries_witness, only_if}
-use Rattle.p3_runs.specs.{Plays.{no_challenge, Any, HasLength, HasAtMost}, Sides.{RefusesKept, RefusesWithin}}
-use Rattle.p3_runs.specs.Sides.{RefusesCarriedWithin, RefusesAsRecorded, RefusesToWriteWithin, sides_known}
+use Rattle.p3_runs.specs.Plays.{Play, known, known_within, sends, sends_witness, carries_witness, only_if}
+use Rattle.p3_runs.specs.Plays.{no_challenge, Any, HasLength, HasAtMost}
 use Rattle.p3_runs.specs.Values.{Value, Challenge, IsNothing, bytes_in, scalar_in, scalars_in, extension_in}
 use Rattle.p3_script.specs.declared.steps.{Drawn.Drawn, Received.Received, Sent.Sent}
 use Rattle.std.specs.Prelude as list
 use Rattle.p3_fs_core.specs.declared.step.Kind.TheVariants as kind
 use Rattle.p3_fs_core.specs.declared.step.Length.TheVariants as lengths
 use Rattle.p3_driver_core.specs.Meanings as meaning
-use Rattle.p3_driver_core.specs.Reads as reads
 use Rattle.p3_runs.specs.Values as value
 use Rattle.p3_script.specs.declared.steps.Drawn.TheVariants as drawn
 use Rattle.p3_script.specs.declared.steps.Received.TheVariants as received
@@ -42,29 +40,21 @@ module _ {S Symbol I F EF O Ac : Type 0} (rules : Rules S Symbol I F EF O Ac) wh
   sends_bytes kind label len =
       sends (bytes_step kind label (lengths.Fixed len)) bytes_in (HasLength len) (HasLength len)
       (meaning.sent_bytes kind label rules.alphabet) Bytes
-      (λ bytes. RefusesToWrite (meaning.sent_bytes kind label rules.alphabet bytes))
-      (reads.received_bytes kind label rules.alphabet len)
 
   -- at most max bytes are sent, after their count
   abbrev pub sends_counted_bytes : List ℕ → ℕ → Play S Symbol F EF O
   sends_counted_bytes label max =
       sends (bytes_step kind.Message label (lengths.Bounded max)) bytes_in Any (HasAtMost max)
       (meaning.sent_bytes_bounded kind.Message label rules.alphabet max) Bytes
-      (λ bytes. RefusesToWriteWithin (list.length bytes) max
-      (meaning.sent_bytes_bounded kind.Message label rules.alphabet max bytes))
-      (reads.received_bytes_bounded label rules.alphabet max)
 
   -- len bytes are sent, or at most max bytes after their count, and the challenger does not observe them
   abbrev pub hints : List ℕ → ℕ → Play S Symbol F EF O
   hints label len = sends (bytes_step kind.Hint label (lengths.Fixed len)) bytes_in (HasLength len) (HasLength len)
-      (meaning.hinted label) (λ _. Nothing) (λ bytes. RefusesToWrite {Symbol = Symbol} (meaning.hinted label bytes))
-      (reads.hint_received label len)
+      (meaning.hinted label) (λ _. Nothing)
 
   abbrev pub hints_counted : List ℕ → ℕ → Play S Symbol F EF O
   hints_counted label max = sends (bytes_step kind.Hint label (lengths.Bounded max)) bytes_in Any (HasAtMost max)
       (meaning.hinted_bounded label max) (λ _. Nothing)
-      (λ bytes. RefusesToWriteWithin {Symbol = Symbol} (list.length bytes) max (meaning.hinted_bounded label max bytes))
-      (reads.hint_received_bounded label max)
 
   -- ---- elements of an algebra, each absorbed as its coefficients
 
@@ -87,14 +77,7 @@ module _ {S Symbol I F EF O Ac : Type 0} (rules : Rules S Symbol I F EF O Ac) wh
   knows_list coding kind label xs =
       let m = list_known coding kind label xs in known m.interaction no_challenge m.effect (elements_absorbed coding xs)
 
-  -- both sides know a list; a verifier first reports a length other than that of the next step
-  abbrev pub knows_as_recorded : {A : Type 0} → Coding S Symbol F A → Kind → List ℕ → List A → Play S Symbol F EF O
-  knows_as_recorded coding kind label xs =
-      let m = list_known coding kind label xs in
-      known_with m.interaction IsNothing no_challenge m.effect (elements_absorbed coding xs)
-      (sides_known (RefusesKept m) (RefusesAsRecorded (list.length xs) m))
-
-  -- both sides know a list of at most max elements, observed after its count
+  -- both sides know a list of at most max elements, which follow their count
   abbrev pub counted_known : {A : Type 0} → Coding S Symbol F A → Kind → List ℕ → List A → ℕ → Meaning S Symbol (List A)
   counted_known coding kind label xs max = meaning.observed_bounded
       (algebra_step kind label coding.algebra (lengths.Bounded max)) rules.alphabet max coding.observation xs
@@ -103,15 +86,12 @@ module _ {S Symbol I F EF O Ac : Type 0} (rules : Rules S Symbol I F EF O Ac) wh
   knows_counted coding kind label xs max =
       let m = counted_known coding kind label xs max in
       known_within m.interaction (list.length xs) max m.effect (elements_absorbed coding xs)
-      (RefusesWithin (list.length xs) max m) (RefusesCarriedWithin (list.length xs) max m)
 
   -- one element is sent, or exactly n elements, or at most max elements after their count
   abbrev pub sends_one : {A : Type 0} → Coding S Symbol F A → (Value F EF → Option A) → List ℕ → Play S Symbol F EF O
   sends_one coding found label =
       let one = algebra_step kind.Message label coding.algebra lengths.Scalar in
       sends one found Any Any (meaning.sent one coding.observation coding.encoding) (element_absorbed coding)
-      (λ x. RefusesToWrite (meaning.sent one coding.observation coding.encoding x))
-      (reads.received one coding.observation coding.encoding)
 
   abbrev pub list_sent : {A : Type 0} → Coding S Symbol F A → List ℕ → List A → Meaning S Symbol (List A)
   list_sent coding label xs =
@@ -122,7 +102,6 @@ module _ {S Symbol I F EF O Ac : Type 0} (rules : Rules S Symbol I F EF O Ac) wh
       Play S Symbol F EF O
   sends_list coding found label n = let step = algebra_step kind.Message label coding.algebra (lengths.Fixed n) in
       sends step found (HasLength n) (HasLength n) (list_sent coding label) (elements_absorbed coding)
-      (λ xs. RefusesToWrite (list_sent coding label xs)) (reads.received_list step coding.observation coding.encoding n)
 
   abbrev pub sends_counted : {A : Type 0} → Coding S Symbol F A → (Value F EF → Option (List A)) → List ℕ → ℕ →
       Play S Symbol F EF O
@@ -130,9 +109,6 @@ module _ {S Symbol I F EF O Ac : Type 0} (rules : Rules S Symbol I F EF O Ac) wh
       let some = algebra_step kind.Message label coding.algebra (lengths.Bounded max) in
       sends some found Any (HasAtMost max)
       (meaning.sent_bounded some rules.alphabet max coding.observation coding.encoding) (elements_absorbed coding)
-      (λ xs. RefusesToWriteWithin (list.length xs) max
-      (meaning.sent_bounded some rules.alphabet max coding.observation coding.encoding xs))
-      (reads.received_bounded some rules.alphabet max coding.observation coding.encoding)
 
   -- ---- challenges
 
@@ -178,12 +154,11 @@ module _ {S Symbol I F EF O Ac : Type 0} (rules : Rules S Symbol I F EF O Ac) wh
   -- a proof of work, whose witness is in the proof or carried by the caller
   abbrev pub sends_work : List ℕ → ℕ → Play S Symbol F EF O
   sends_work label bits = only_if (is_work bits)
-      (sends_witness (work_in label bits) rules.grinding.is_there rules.witness_encoding rules.grinding.may_run_out
-      (witness_of bits))
+      (sends_witness (work_in label bits) rules.grinding.is_there rules.witness_encoding (witness_of bits))
 
   abbrev pub carries_work : List ℕ → ℕ → Play S Symbol F EF O
   carries_work label bits = only_if (is_work bits)
-      (carries_witness (work_in label bits) rules.grinding.is_there rules.grinding.may_run_out (witness_of bits))
+      (carries_witness (work_in label bits) rules.grinding.is_there (witness_of bits))
 
   -- ---- the steps of a script
 
@@ -203,7 +178,7 @@ module _ {S Symbol I F EF O Ac : Type 0} (rules : Rules S Symbol I F EF O Ac) wh
   play_of (step.ScalarsBounded label max) = sends_counted rules.scalar scalars_in label.now max
   play_of (step.Extension label) = sends_one rules.extension extension_in label.now
   play_of (step.ObserveExtension label x) = knows_one rules.extension kind.Message label.now x
-  play_of (step.ObserveExtensions label xs) = knows_as_recorded rules.extension kind.Message label.now xs.items
+  play_of (step.ObserveExtensions label xs) = knows_list rules.extension kind.Message label.now xs.items
   play_of (step.ObserveExtensionsBounded label xs max) =
       knows_counted rules.extension kind.Message label.now xs.items max
   play_of (step.Opaque label x) = knows_opaque label.now x

@@ -11,7 +11,7 @@ use Rattle.p3_runs.specs.Provings.{AreHanded, FirstIs, IsProved, IsProverOutcome
 use Rattle.p3_runs.specs.Provings.{RefusesToProveEnd, RefusesToProveStep}
 use Rattle.p3_runs.specs.ProvingLaws.{Proves, proves-end, proves-not_ended, proves-on, proves-refused, proves-start}
 use Rattle.p3_runs.specs.RefusalLaws.{AreDetermined, AreRefusedForMemory, refused-never}
-use Rattle.p3_runs.specs.{Values.{Challenge, Value}, Verdicts.{driving_after, with_steps}}
+use Rattle.p3_runs.specs.{Sides.Sides, Values.{Challenge, Value}, Verdicts.{driving_after, with_steps}}
 use Rattle.p3_script_answers.specs.{Answering.IsTurn, Turns.PlaysWith}
 use Rattle.p3_runs.specs.Plays as place
 use Rattle.p3_runs.specs.Runs as runs
@@ -71,7 +71,7 @@ admitted-at play (y ∷ steps) rest (suc i) x h at = admitted-at play steps rest
 -- these values and then this one, where the step sends it: it may be handed for the step
 pub record Adds {S Symbol F EF O : Type 0} (play : Play S Symbol F EF O) (given : Value F EF) (before after : List (Value F EF)) :
     Type 0 where
-  pub handed : play.sides.IsHanded given
+  pub handed : play.IsHanded given
   pub more : after ≡ before ++ if_sent play.place given
 
 module _ {X S Symbol I F EF O Ac U D : Type 0} (rules : Rules S Symbol I F EF O Ac) (play : X → Play S Symbol F EF O) where
@@ -179,7 +179,7 @@ module _ {X S Symbol I F EF O Ac U D : Type 0} (rules : Rules S Symbol I F EF O 
               left = subst (λ l. AreHanded play l (drop (length sent) more))
                   (sym (last-at ∙ ap (λ l. x ∷ l) (none-left script.steps (i + 1))))
                   (subst (λ l. AreHanded play (x ∷ []) l) (sym rest-given)
-                  (first-alone (play x).place (play x).sides.IsHanded given k.handed));
+                  (first-alone (play x).place (play x).IsHanded given k.handed));
               witnesses_is = f.proves.witnesses_is;
               carried_is = f.proves.carried_is;
               drawn_is = f.proves.drawn_is;
@@ -197,27 +197,27 @@ module _ {X S Symbol I F EF O Ac U D : Type 0} (rules : Rules S Symbol I F EF O 
             record { proves = rw (p.witnesses_is, p.carried_is, p.drawn_is) on }
 
         -- it is refused
-        next-refused : (there : Driving S) (e : TranscriptError) →
-            (play x).sides.prover given now e there ⊎ Halts now e there →
-            RefusesToProveStep rules play (first_of script (i + 1)) more i e
-        next-refused there e refuses =
-            proves-refused rules play (first_of script (i + 1)) more i (length sent) now there witnesses carried drawn x given
+        next-refused : (sides : X → Sides S F EF) (there : Driving S) (e : TranscriptError) →
+            (sides x).prover given now e there ⊎ Halts now e there →
+            RefusesToProveStep rules play sides (first_of script (i + 1)) more i e
+        next-refused sides there e refuses =
+            proves-refused rules play sides (first_of script (i + 1)) more i (length sent) now there witnesses carried drawn x given
             [] e last-at rest-used k.handed up-to refuses
 
   -- ---- refusals
 
   -- Each list of values that begins with these is refused at this position for this, and where that is not for memory,
   -- it has no run. Where all steps were played, that is these alone.
-  abbrev pub AllAreRefused : Run X F EF S U D → List (Value F EF) → ℕ → TranscriptError → Type 0
-  AllAreRefused script given position e = (later : List (Value F EF)) → (length script.steps ≤ position → later ≡ []) →
-      RefusesToProve rules play script (given ++ later) position e × ((e ≡ OutOfMemory → ⊥) →
+  abbrev pub AllAreRefused : (X → Sides S F EF) → Run X F EF S U D → List (Value F EF) → ℕ → TranscriptError → Type 0
+  AllAreRefused sides script given position e = (later : List (Value F EF)) → (length script.steps ≤ position → later ≡ []) →
+      RefusesToProve rules play sides script (given ++ later) position e × ((e ≡ OutOfMemory → ⊥) →
       (values : List (Value F EF)) → IsProverRun rules play (with_steps script script.steps values) (given ++ later) → ⊥)
 
   -- a refusal of the last of the first steps is one of the script's, whatever values come later
-  step-refused : (script : Run X F EF S U D) (sent later : List (Value F EF)) (n position : ℕ) (e : TranscriptError) →
-      RefusesToProveStep rules play (first_of script n) sent position e →
-      RefusesToProveStep rules play script (sent ++ later) position e
-  step-refused script sent later n position e r =
+  step-refused : (sides : X → Sides S F EF) (script : Run X F EF S U D) (sent later : List (Value F EF)) (n position : ℕ) (e : TranscriptError) →
+      RefusesToProveStep rules play sides (first_of script n) sent position e →
+      RefusesToProveStep rules play sides script (sent ++ later) position e
+  step-refused sides script sent later n position e r =
       record {
         before = r.before;
         step = r.step;
@@ -239,26 +239,26 @@ module _ {X S Symbol I F EF O Ac U D : Type 0} (rules : Rules S Symbol I F EF O 
         refuses = r.refuses;
       }
 
-  module _ (script : Run X F EF S U D) (told : AreDetermined play script.steps)
-      (sendable : AreRefusedForMemory play script.steps) (may : AreAdmitted play script.steps) where
+  module _ (sides : X → Sides S F EF) (script : Run X F EF S U D) (told : AreDetermined play script.steps)
+      (sendable : AreRefusedForMemory play sides script.steps) (may : AreAdmitted play script.steps) where
     -- the seed is refused
     pub seed-refused : (e : TranscriptError) → RefusesStart (rules.alphabet.is_too_long (length (seed rules play script))) e →
-        AllAreRefused script [] 0 e
+        AllAreRefused sides script [] 0 e
     seed-refused e h =
-        λ later only. (inl (refl, h), refused-never rules play script later 0 e told sendable may (inl (refl, h)))
+        λ later only. (inl (refl, h), refused-never rules play sides script later 0 e told sendable may (inl (refl, h)))
 
     module _ (sent : List (Value F EF)) (i : ℕ) (now : Driving S) (witnesses carried : List F)
         (drawn : List (Challenge F EF)) (f : ProvesFirst script sent i now witnesses carried drawn) where
       -- the next step is refused, with the value that was given for it
       pub first-refused : (x : X) → drop i script.steps ≡ x ∷ drop (i + 1) script.steps → (given : Value F EF)
           (more : List (Value F EF)) → Adds (play x) given sent more → (there : Driving S) (e : TranscriptError) →
-          (play x).sides.prover given now e there ⊎ Halts now e there → AllAreRefused script more i e
+          (sides x).prover given now e there ⊎ Halts now e there → AllAreRefused sides script more i e
       first-refused x at given more k there e refuses =
-          let r = next-refused script i x at sent now witnesses carried drawn f given more k there e refuses in
+          let r = next-refused script i x at sent now witnesses carried drawn f given more k sides there e refuses in
           λ later only.
-          let refused : RefusesToProve rules play script (more ++ later) i e
-          = inr (inl (step-refused script more later (i + 1) i e r)) in
-          (refused, refused-never rules play script (more ++ later) i e told sendable may refused)
+          let refused : RefusesToProve rules play sides script (more ++ later) i e
+          = inr (inl (step-refused sides script more later (i + 1) i e r)) in
+          (refused, refused-never rules play sides script (more ++ later) i e told sendable may refused)
 
       module _ (past : length script.steps ≤ i) where
         all-taken : take i script.steps ≡ script.steps
@@ -270,12 +270,12 @@ module _ {X S Symbol I F EF O Ac U D : Type 0} (rules : Rules S Symbol I F EF O 
         -- all steps were played, and the end is refused
         pub end-refused : (e : TranscriptError) →
             IsPatternError (λ m. FaultOfPlayEnd now.transcript.playing (pattern_error_of m)) e →
-            AllAreRefused script sent (length script.steps) e
+            AllAreRefused sides script sent (length script.steps) e
         end-refused e h =
             let r = subst (λ l. RefusesToProveEnd rules play (with_steps script l []) sent (length l) e) all-taken
             (proves-not_ended rules play (first_of script i) sent i (length sent) now witnesses carried drawn taken-past
             f.proves e h) in
-            let refused : RefusesToProve rules play script sent (length script.steps) e = inr (inr (record {
+            let refused : RefusesToProve rules play sides script sent (length script.steps) e = inr (inr (record {
               place = r.place;
               values = r.values;
               finished = r.finished;
@@ -285,10 +285,10 @@ module _ {X S Symbol I F EF O Ac U D : Type 0} (rules : Rules S Symbol I F EF O 
             })) in
             λ later only.
             let same : sent ++ later ≡ sent = ap (λ l. sent ++ l) (only (omega (arith))) ∙ append-nil sent in
-            subst (λ l. RefusesToProve rules play script l (length script.steps) e × ((e ≡ OutOfMemory → ⊥) →
+            subst (λ l. RefusesToProve rules play sides script l (length script.steps) e × ((e ≡ OutOfMemory → ⊥) →
             (values : List (Value F EF)) → IsProverRun rules play (with_steps script script.steps values) l → ⊥))
             (sym same)
-            (refused, refused-never rules play script sent (length script.steps) e told sendable may refused)
+            (refused, refused-never rules play sides script sent (length script.steps) e told sendable may refused)
 
         -- all steps were played, and it ends
         pub first-end : (narg : List ℕ) (end : S) → IsPlayed now.transcript.playing → narg ≡ now.bytes →

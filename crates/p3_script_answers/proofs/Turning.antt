@@ -64,13 +64,13 @@ module _ {Su F EF U O C K Ac D G It St Sy : Type 0} where
     -- what is lent of an answer may be handed for its step
     pub lent-handed : (lent : Option (Bor (Sent Su F EF U O C K Ac D G It St Sy)))
         (value : Option (Sent Su F EF U O C K Ac D G It St Sy)) → option_copied lent ≡ value → IsAnswerFor play value →
-        play.sides.IsHanded (value_given lent)
+        play.IsHanded (value_given lent)
     lent-handed None None h a = a.so.1
     lent-handed None (Some x) h a = absurd (cc)
     lent-handed (Some r) None h a = absurd (cc)
     lent-handed (Some r) (Some x) h a =
         let same : x ≡ r.now = cc in
-        subst (λ y. play.sides.IsHanded (value_sent y)) same a.so.1
+        subst (λ y. play.IsHanded (value_sent y)) same a.so.1
 
     -- it is kept
     pub answer-adds : (value : Option (Sent Su F EF U O C K Ac D G It St Sy))

@@ -64,7 +64,7 @@ module _ {Su F EF U O C K Ac D G It St Sy P E : Type 0} (rules : Rules St Sy It 
     pub value : Sent Su F EF U O C K Ac D G It St Sy
     pub there : P
     pub answers_turn : AnswersTurn given position here (Ok value) there
-    pub unfit : (play_of rules answers_turn.step).sides.IsHanded (value_sent value) → ⊥
+    pub unfit : (play_of rules answers_turn.step).IsHanded (value_sent value) → ⊥
 
   abbrev pub StopsAfter : List (Sent Su F EF U O C K Ac D G It St Sy) → P → ProveByError E → Type 0
   StopsAfter given here (error.Refused fault) = AreRefused given fault

@@ -38,7 +38,7 @@ pub(crate) fn ask<S: Suite, E: Drop, F: FnMut(usize, &[Drawn<S>]) -> Result<Sent
 // `sent_matches` of `p3_script_checks` asks of each value of a list.
 fn is_handed<S: Suite>(step: &Step<S>, value: &Sent<S>) -> bool
     ensures { let rules = ⟦<S as Meaning>⟧.rules S.Field.DIMENSION in
-        IsTrue result ↔ (play_of rules step.now).sides.IsHanded (value_sent value.now) }
+        IsTrue result ↔ (play_of rules step.now).IsHanded (value_sent value.now) }
 {
     match (step, value) {
         (Step::Salt { len, .. }, Sent::Bytes(bytes)) => bytes.len() == *len,

@@ -2,7 +2,7 @@
 ghost use Rattle.std.specs.Prelude.{◌≡◌, ◌++◌, [], OnOk};
 ghost use Rattle.p3_drivers.specs.Drivers.{proving_of};
 ghost use Rattle.p3_runs.specs.Stepping.{one_of};
-ghost use Rattle.p3_script.specs.Scripts.{play_of, challenges_of};
+ghost use Rattle.p3_script.specs.{Scripts.{play_of, challenges_of}, ScriptRefusals.sides_of};
 ghost use Rattle.p3_script_answers.specs.Turns.{IsAnswerFor, PlaysOrRefuses, value_answered};
 ghost use Rattle.p3_script_prover.specs.Nexts.{carried_at};
 
@@ -94,7 +94,8 @@ pub(crate) fn play_answered<S: Suite>(
 ) -> Result<(), TranscriptError>
     requires admitted { (play_of (⟦<S as Meaning>⟧.rules S.Field.DIMENSION) step.now).admitted }
     requires answered { IsAnswerFor (play_of (⟦<S as Meaning>⟧.rules S.Field.DIMENSION) step.now) value }
-    ensures played { PlaysOrRefuses (play_of (⟦<S as Meaning>⟧.rules S.Field.DIMENSION) step.now)
+    ensures played { let rules = ⟦<S as Meaning>⟧.rules S.Field.DIMENSION in
+        PlaysOrRefuses (play_of rules step.now) (sides_of rules step.now)
         (value_answered value) (proving_of S.Challenger.state prover.old) made.old.witnesses.items
         made.old.carried.items (challenges_of made.old.challenges.items) result
         (proving_of S.Challenger.state prover.new) made.new.witnesses.items made.new.carried.items

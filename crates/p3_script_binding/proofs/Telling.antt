@@ -2,7 +2,7 @@
 use Rattle.std.proofs.Common.{◌≡◌, ℕ, zero, suc, List, [], ◌∷◌, ◌++◌, map, refl, ap}
 use Rattle.p3_fs_core.specs.declared.step.{Kind.Kind, Length.Length, Length.TheVariants.{None, Scalar, Fixed, Bounded}}
 use Rattle.p3_binding.specs.Hints.{SameButHint, SameOfKind, SameButHints, ReceivedButHints, FirstAre}
-use Rattle.p3_runs.specs.{Absorbed.{Absorbed, Nothing, Bytes, Elements, witness_of}, Rules.Rules, Sides.holds_some}
+use Rattle.p3_runs.specs.{Absorbed.{Absorbed, Nothing, Bytes, Elements, witness_of}, Rules.Rules, Plays.holds_some}
 use Rattle.p3_runs.specs.Plays.{Play, Place, Nowhere, Sent, Found, Carried, when_some}
 use Rattle.p3_runs.specs.Runs.{Finishes, absorbed, in_proof, if_in_proof}
 use Rattle.p3_runs.specs.Values.{Value, IsNothing, bytes_in, scalar_in, scalars_in, extension_in, witness_in}

@@ -62,7 +62,7 @@ fn is_carried<S: Suite>(step: &Step<S>) -> bool
 // Whether the step sends a value of this one's type and, if it says how long it is, of that length.
 fn is_handed<S: Suite>(step: &Step<S>, value: &Sent<S>) -> bool
     ensures { let rules = ⟦<S as Meaning>⟧.rules S.Field.DIMENSION in
-        IsTrue result ↔ (play_of rules step.now).sides.IsHanded (value_sent value.now) }
+        IsTrue result ↔ (play_of rules step.now).IsHanded (value_sent value.now) }
 {
     match (step, value) {
         (Step::Salt { len, .. }, Sent::Bytes(bytes)) => bytes.len() == *len,

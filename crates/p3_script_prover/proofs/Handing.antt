@@ -3,7 +3,7 @@ use Rattle.std.{specs.Borrow.Bor, proofs.Common.{drop, slice_get, add-one, ◌�
 use Rattle.std.proofs.Common.{◌++◌, Option, Some, None, refl, sym, ap, ◌∙◌, subst}
 use Rattle.p3_driver_core.specs.Driving.{Driving}
 use Rattle.p3_runs.specs.{Plays.Play, Provings.{StartsHanded, where_carried}, Runs.{if_sent, if_drawn}}
-use Rattle.p3_runs.specs.{Stepping.{SendsStep, one_of, Halts}, Values.{Value, Challenge, Nothing}}
+use Rattle.p3_runs.specs.{Sides.Sides, Stepping.{SendsStep, one_of, Halts}, Values.{Value, Challenge, Nothing}}
 use Rattle.p3_script.specs.Scripts.{value_sent, values_sent, challenge_of, challenges_of, drawn_of}
 use Rattle.p3_script.specs.{declared.{steps.{Drawn.Drawn, Sent.Sent}, standing.Standing.Standing}, Standings.StandsSo}
 use Rattle.p3_fs_core.specs.declared.error.TranscriptError.{TranscriptError}
@@ -44,20 +44,20 @@ drawn-more (y ∷ xs) drawn = ap (λ l. challenge_of y ∷ l) (drawn-more xs dra
 -- what is handed for the next step: it may be, and it is the first value that was not used yet, if the step is sent one
 pub record IsHandedNext {S Symbol F EF O : Type 0} (play : Play S Symbol F EF O) (sent : List (Value F EF)) (j k : ℕ)
     (given : Value F EF) : Type 0 where
-  pub handed : play.sides.IsHanded given
+  pub handed : play.IsHanded given
   pub used : drop j sent ≡ if_sent play.place given ++ drop k sent
 
 -- the step is refused
-pub refused-next : {S Symbol F EF O : Type 0} (play : Play S Symbol F EF O) (vals : List (Value F EF)) (at k : ℕ)
-    (given : Value F EF) (here there : Driving S) (e : TranscriptError) → IsHandedNext play vals at k given →
-    play.sides.prover given here e there ⊎ Halts here e there → RefusesNext play vals at here e there
-refused-next play vals at k given here there e n refuses =
+pub refused-next : {S Symbol F EF O : Type 0} (play : Play S Symbol F EF O) (sides : Sides S F EF)
+    (vals : List (Value F EF)) (at k : ℕ) (given : Value F EF) (here there : Driving S) (e : TranscriptError) → IsHandedNext play vals at k given →
+    sides.prover given here e there ⊎ Halts here e there → RefusesNext play sides vals at here e there
+refused-next play sides vals at k given here there e n refuses =
     record { given = given; unused = drop k vals; used = n.used; handed = n.handed; refuses = refuses }
 
 module _ {Su F EF U O C K Ac D G It St Sy S Symbol : Type 0} (play : Play S Symbol F EF O) where
   not_sent : (sent : List (Sent Su F EF U O C K Ac D G It St Sy)) (at : ℕ)
       (given : Option (Bor (Sent Su F EF U O C K Ac D G It St Sy))) → given ≡ None →
-      ((v : Value F EF) → if_sent play.place v ≡ []) → play.sides.IsHanded Nothing →
+      ((v : Value F EF) → if_sent play.place v ≡ []) → play.IsHanded Nothing →
       IsHandedNext play (values_sent sent) at (next_place at given) (value_given given)
   not_sent sent at None h none handed =
       record { handed = handed; used = ap (λ l. l ++ drop at (values_sent sent)) (sym (none Nothing)) }
@@ -67,11 +67,11 @@ module _ {Su F EF U O C K Ac D G It St Sy S Symbol : Type 0} (play : Play S Symb
   record Gets (sent : List (Sent Su F EF U O C K Ac D G It St Sy)) (at : ℕ) : Type 0 where
     pub x : Sent Su F EF U O C K Ac D G It St Sy
     pub place : slice_get sent at ≡ Some x
-    pub handed : play.sides.IsHanded (value_sent x)
+    pub handed : play.IsHanded (value_sent x)
     pub rest : drop at (values_sent sent) ≡ value_sent x ∷ drop (suc at) (values_sent sent)
 
   gets : (sent : List (Sent Su F EF U O C K Ac D G It St Sy)) (at : ℕ) →
-      StartsHanded place.Sent play.sides.IsHanded (drop at (values_sent sent)) → Gets sent at
+      StartsHanded place.Sent play.IsHanded (drop at (values_sent sent)) → Gets sent at
   gets [] zero h = absurd h
   gets [] (suc at) h = absurd h
   gets (x ∷ sent) zero h = record { x = x; place = refl; handed = h.0; rest = refl }
@@ -81,7 +81,7 @@ module _ {Su F EF U O C K Ac D G It St Sy S Symbol : Type 0} (play : Play S Symb
 
   first_sent : (sent : List (Sent Su F EF U O C K Ac D G It St Sy)) (at : ℕ)
       (given : Option (Bor (Sent Su F EF U O C K Ac D G It St Sy))) → lent given ≡ slice_get sent at →
-      StartsHanded place.Sent play.sides.IsHanded (drop at (values_sent sent)) → play.place ≡ place.Sent →
+      StartsHanded place.Sent play.IsHanded (drop at (values_sent sent)) → play.place ≡ place.Sent →
       IsHandedNext play (values_sent sent) at (next_place at given) (value_given given)
   first_sent sent at None h starts is =
       let got = gets sent at starts in
@@ -92,7 +92,7 @@ module _ {Su F EF U O C K Ac D G It St Sy S Symbol : Type 0} (play : Play S Symb
       let e : Some r.now ≡ Some got.x = h ∙ got.place in
       let same : got.x ≡ r.now = cc in
       record {
-        handed = subst (λ y. play.sides.IsHanded (value_sent y)) same got.handed;
+        handed = subst (λ y. play.IsHanded (value_sent y)) same got.handed;
         used = got.rest ∙ ap (λ y. value_sent y ∷ drop (suc at) (values_sent sent)) same
             ∙ ap (λ (n : ℕ). value_sent r.now ∷ drop n (values_sent sent)) (sym (add-one at))
             ∙ ap (λ p. if_sent p (value_sent r.now) ++ drop (at + 1) (values_sent sent)) (sym is);
@@ -101,11 +101,11 @@ module _ {Su F EF U O C K Ac D G It St Sy S Symbol : Type 0} (play : Play S Symb
   pub handed-next : (standing : Standing) (sent : List (Sent Su F EF U O C K Ac D G It St Sy)) (at : ℕ)
       (given : Option (Bor (Sent Su F EF U O C K Ac D G It St Sy))) → StandsSo play standing →
       IsGivenAt standing sent at given →
-      StartsHanded play.place play.sides.IsHanded (drop at (values_sent sent)) →
+      StartsHanded play.place play.IsHanded (drop at (values_sent sent)) →
       IsHandedNext play (values_sent sent) at (next_place at given) (value_given given)
   handed-next standing.Sent sent at given h is starts =
       first_sent sent at given is
-      (subst (λ p. StartsHanded p play.sides.IsHanded (drop at (values_sent sent))) h.so starts) h.so
+      (subst (λ p. StartsHanded p play.IsHanded (drop at (values_sent sent))) h.so starts) h.so
   handed-next _ sent at given h is starts =
       not_sent sent at given is (λ v. ap (λ p. if_sent p v) h.so.0) h.so.1
 

@@ -7,7 +7,8 @@ use Rattle.p3_patterns.specs.Playing.{FaultOfPlayEnd, IsPatternError}
 use Rattle.p3_driver_core.specs.Driving.{Driving}
 use Rattle.p3_runs.specs.{Fronts.Run, Plays.Play, Provings.{IsProverRun, RefusesToProve}, Rules.Rules, Runs.AreAdmitted}
 use Rattle.p3_runs.specs.{ProvingLaws.{Proves, proves-on, proves-refused, proves-not_ended}, Values.{Value, Challenge}}
-use Rattle.p3_runs.specs.{RefusalLaws.{AreDetermined, AreRefusedForMemory, refused-never}, Verdicts.with_steps}
+use Rattle.p3_runs.specs.RefusalLaws.{AreDetermined, AreRefusedForMemory, refused-never}
+use Rattle.p3_runs.specs.{Sides.Sides, Verdicts.with_steps}
 use Rattle.p3_script_prover.specs.Nexts.{PlaysNext, RefusesNext}
 
 -- the part from i on begins with the element there
@@ -39,13 +40,13 @@ module _ {X S Symbol I F EF O Ac U D : Type 0} (rules : Rules S Symbol I F EF O 
       rw (n.witnesses_is, n.carried_is, n.drawn_is) more
 
   -- it is refused
-  pub next-refused : (script : Run X F EF S U D) (sent : List (Value F EF)) (i j : ℕ) (here there : Driving S)
-      (witnesses carried : List F) (drawn : List (Challenge F EF)) (x : X) (e : TranscriptError) →
+  pub next-refused : (sides : X → Sides S F EF) (script : Run X F EF S U D) (sent : List (Value F EF)) (i j : ℕ)
+      (here there : Driving S) (witnesses carried : List F) (drawn : List (Challenge F EF)) (x : X) (e : TranscriptError) →
       drop i script.steps ≡ x ∷ drop (i + 1) script.steps →
-      Proves rules play script sent i j here witnesses carried drawn → RefusesNext (play x) sent j here e there →
-      RefusesToProve rules play script sent i e
-  next-refused script sent i j here there witnesses carried drawn x e at f n =
-      inr (inl (proves-refused rules play script sent i j here there witnesses carried drawn x n.given n.unused e at
+      Proves rules play script sent i j here witnesses carried drawn → RefusesNext (play x) (sides x) sent j here e there →
+      RefusesToProve rules play sides script sent i e
+  next-refused sides script sent i j here there witnesses carried drawn x e at f n =
+      inr (inl (proves-refused rules play sides script sent i j here there witnesses carried drawn x n.given n.unused e at
       n.used n.handed f n.refuses))
 
   -- the next step may be played
@@ -56,25 +57,25 @@ module _ {X S Symbol I F EF O Ac U D : Type 0} (rules : Rules S Symbol I F EF O 
   next-admitted script sent i j now witnesses carried drawn x f at admitted =
       admitted-at play script.steps (drop (i + 1) script.steps) i x admitted at
 
-  module _ (script : Run X F EF S U D) (sent : List (Value F EF)) (i j : ℕ) (now : Driving S)
+  module _ (sides : X → Sides S F EF) (script : Run X F EF S U D) (sent : List (Value F EF)) (i j : ℕ) (now : Driving S)
       (witnesses carried : List F) (drawn : List (Challenge F EF)) where
     -- where the next step is refused for another reason than being out of memory, no values are the script's
     pub next-never : (there : Driving S) (x : X) (e : TranscriptError) →
         Proves rules play script sent i j now witnesses carried drawn → AreDetermined play script.steps →
-        drop i script.steps ≡ x ∷ drop (i + 1) script.steps → RefusesNext (play x) sent j now e there →
-        AreRefusedForMemory play script.steps → AreAdmitted play script.steps → (e ≡ OutOfMemory → ⊥) →
+        drop i script.steps ≡ x ∷ drop (i + 1) script.steps → RefusesNext (play x) (sides x) sent j now e there →
+        AreRefusedForMemory play sides script.steps → AreAdmitted play script.steps → (e ≡ OutOfMemory → ⊥) →
         (values : List (Value F EF)) → IsProverRun rules play (with_steps script script.steps values) sent → ⊥
     next-never there x e f told at n sendable may other values run =
-        refused-never rules play script sent i e told sendable may
-        (next-refused script sent i j now there witnesses carried drawn x e at f n) other values run
+        refused-never rules play sides script sent i e told sendable may
+        (next-refused sides script sent i j now there witnesses carried drawn x e at f n) other values run
 
     -- where the end is, neither
     pub end-never : (e : TranscriptError) → Proves rules play script sent i j now witnesses carried drawn →
         AreDetermined play script.steps → length script.steps ≤ i →
         IsPatternError (λ m. FaultOfPlayEnd now.transcript.playing (pattern_error_of m)) e →
-        AreRefusedForMemory play script.steps → AreAdmitted play script.steps → (e ≡ OutOfMemory → ⊥) →
+        AreRefusedForMemory play sides script.steps → AreAdmitted play script.steps → (e ≡ OutOfMemory → ⊥) →
         (values : List (Value F EF)) → IsProverRun rules play (with_steps script script.steps values) sent → ⊥
     end-never e f told past refuses sendable may other values run =
-        refused-never rules play script sent (length script.steps) e told sendable may
+        refused-never rules play sides script sent (length script.steps) e told sendable may
         (inr (inr (proves-not_ended rules play script sent i j now witnesses carried drawn past f e refuses))) other values
         run

@@ -4,7 +4,7 @@ use Rattle.std.specs.Prelude.{Result, MatchResult}
 use Rattle.p3_fs_core.specs.declared.error.TranscriptError.{TranscriptError}
 use Rattle.p3_driver_core.specs.Driving.{Driving}
 use Rattle.p3_runs.specs.{Plays.Play, Provings.where_carried, Runs.{if_sent, if_drawn}, Values.{Value, Challenge}}
-use Rattle.p3_runs.specs.Stepping.{SendsStep, Halts, one_of}
+use Rattle.p3_runs.specs.{Sides.Sides, Stepping.{SendsStep, Halts, one_of}}
 use Rattle.p3_script.specs.declared.standing.Standing.{Standing}
 use Rattle.p3_script.specs.declared.standing.Standing.TheVariants as standing
 
@@ -43,18 +43,18 @@ pub record PlaysNext {S Symbol F EF O : Type 0} (play : Play S Symbol F EF O) (s
   pub drawn_is : drawn1 ≡ drawn0 ++ if_drawn (Some drawn)
 
 -- The step is refused with what is handed for it, or memory for its results was refused.
-pub record RefusesNext {S Symbol F EF O : Type 0} (play : Play S Symbol F EF O) (sent : List (Value F EF)) (j : ℕ)
-    (here : Driving S) (e : TranscriptError) (there : Driving S) : Type 0 where
+pub record RefusesNext {S Symbol F EF O : Type 0} (play : Play S Symbol F EF O) (sides : Sides S F EF)
+    (sent : List (Value F EF)) (j : ℕ) (here : Driving S) (e : TranscriptError) (there : Driving S) : Type 0 where
   pub given : Value F EF
   pub unused : List (Value F EF)
   pub used : drop j sent ≡ if_sent play.place given ++ unused
-  pub handed : play.sides.IsHanded given
-  pub refuses : play.sides.prover given here e there ⊎ Halts here e there
+  pub handed : play.IsHanded given
+  pub refuses : sides.prover given here e there ⊎ Halts here e there
 
-pub record NextOrRefuses {S Symbol F EF O R : Type 0} (play : Play S Symbol F EF O) (sent : List (Value F EF)) (j : ℕ)
-    (here : Driving S) (witnesses0 carried0 : List F) (drawn0 : List (Challenge F EF))
+pub record NextOrRefuses {S Symbol F EF O R : Type 0} (play : Play S Symbol F EF O) (sides : Sides S F EF)
+    (sent : List (Value F EF)) (j : ℕ) (here : Driving S) (witnesses0 carried0 : List F) (drawn0 : List (Challenge F EF))
     (result : Result R TranscriptError) (k : ℕ) (there : Driving S) (witnesses1 carried1 : List F)
     (drawn1 : List (Challenge F EF)) : Type 0 where
   pub comes : MatchResult result
       (λ _. PlaysNext play sent j k here there witnesses0 witnesses1 carried0 carried1 drawn0 drawn1)
-      (λ e. RefusesNext play sent j here e there)
+      (λ e. RefusesNext play sides sent j here e there)

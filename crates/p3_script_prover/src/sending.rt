@@ -2,7 +2,7 @@
 ghost use Rattle.std.specs.Prelude.{◌≡◌, ◌≤◌, ◌++◌, List, ℕ, IsTrue};
 ghost use Rattle.p3_fs_core.specs.Scalar.{encoding};
 ghost use Rattle.p3_runs.specs.{Plays.{Any, HasLength}, Values.{bytes_in, scalar_in, scalars_in, extension_in}};
-ghost use Rattle.p3_runs.specs.Sides.{holds_some};
+ghost use Rattle.p3_runs.specs.Plays.{holds_some};
 ghost use Rattle.p3_script_prover.specs.ProverAnswers.{PlaysHanded, PlaysUnhanded, value_given};
 
 use crate::stepping::Played;

@@ -33,7 +33,7 @@ pub fn prover_step<S: Suite>(
 ) -> Result<Played<S>, TranscriptError>
     requires admitted { (play_of (⟦<S as Meaning>⟧.rules S.Field.DIMENSION) step.now).admitted }
     requires handed { let rules = ⟦<S as Meaning>⟧.rules S.Field.DIMENSION in
-        (play_of rules step.now).sides.IsHanded (value_given sent) }
+        (play_of rules step.now).IsHanded (value_given sent) }
     ensures { PlaysHanded (⟦<S as Meaning>⟧.rules S.Field.DIMENSION) S.Challenger.state
         step.now sent.entry prover.old result prover.new }
 {

@@ -5,7 +5,7 @@ use Rattle.p3_fs_core.specs.StepFits.{FitsLength}
 use Rattle.p3_driver_core.specs.{Driving.Driving, Verifying.EndsReading}
 use Rattle.p3_runs.specs.{Fronts.Run, FollowingLaws.{Follows, follows-on, follows-end, follows-outcome}, Plays.Play}
 use Rattle.p3_runs.specs.{NoProofLaws.one-run, Rules.Rules, Runs.{AreAdmitted, carried_count, if_carried}}
-use Rattle.p3_runs.specs.{Stepping.{IsCarriedTo, one_of, IsCanonical, IsTakenWherePossible}, Values.{Value, Challenge}}
+use Rattle.p3_runs.specs.{Stepping.{IsCarriedTo, one_of, IsCanonical}, Values.{Value, Challenge}}
 use Rattle.p3_runs.specs.Verdicts.{Accepts}
 use Rattle.p3_script_verifier.specs.VerifierAnswers.{KeepsOne}
 
@@ -62,15 +62,14 @@ module _ {X S Symbol I F EF O Ac U D : Type 0} (rules : Rules S Symbol I F EF O 
 
   -- all was played and read: the proof is accepted
   pub follows-accepts : ((x : X) → FitsLength (play x).interaction.length → IsCanonical (play x)) →
-      ((x : X) → FitsLength (play x).interaction.length → (play x).admitted → IsTakenWherePossible (play x)) →
       (i j : ℕ) (now : Driving S) (received : List (Value F EF)) (drawn : List (Challenge F EF)) (end : S) →
       length script.steps ≤ i → Follows rules play script bytes carried i j now received drawn → EndsReading now →
       end ≡ now.transcript.challenger → Accepts rules play script bytes carried received drawn end
-  follows-accepts canonical taken i j now received drawn end past f ends is =
+  follows-accepts canonical i j now received drawn end past f ends is =
       let proof = follows-end rules play script bytes carried i j now received drawn past f ends in
       record {
         values = f.values;
         proof = proof;
         outcome = follows-outcome rules play script bytes carried i j now received drawn past f end is;
-        only = λ others other. one-run rules play canonical taken script bytes carried f.values proof others other;
+        only = λ others other. one-run rules play canonical script bytes carried f.values proof others other;
       }

@@ -7,15 +7,15 @@ use Rattle.p3_driver_core.specs.{Driving.Driving, Effects.Effect, Reads.Reading,
 use Rattle.p3_driver_core.specs.Verifying.{Receives}
 use Rattle.p3_script_verifier.specs.VerifierAnswers.{IsRefused}
 use Rattle.p3_step_laws.specs.ReadBack.{OnlyReads}
-use Rattle.p3_runs.specs.{Absorbed.Absorbed, Plays.{Play, sends}, Sides.Refusing, Stepping.TakesStep, Values.Value}
+use Rattle.p3_runs.specs.{Absorbed.Absorbed, Plays.sends, Sides.Sides, Stepping.TakesStep, Values.Value}
 
 -- a value that the step sends is received
 pub sent-taken : {S Symbol F EF O A : Type 0} (i : Step) (found : Value F EF → Option A) (IsHanded IsFit : A → Type 0)
-    (sent : A → Meaning S Symbol A) (absorbed : A → Absorbed F O) (proving : A → Refusing S) (r : Reading S Symbol A)
+    (sent : A → Meaning S Symbol A) (absorbed : A → Absorbed F O) (r : Reading S Symbol A)
     (before after : Driving S) (v : Value F EF) (x : A) → r.interaction ≡ i → r.effect x ≡ (sent x).effect →
     OnlyReads r IsFit sent → AreBytes before.bytes → found v ≡ Some x → Receives r before x after →
-    TakesStep (sends i found IsHanded IsFit sent absorbed proving r) None before (v ∷ []) None after
-sent-taken {S} {Symbol} {F} {EF} {O} {A} i found IsHanded IsFit sent absorbed proving r before after v x named same only bytes is p =
+    TakesStep (sends i found IsHanded IsFit sent absorbed) None before (v ∷ []) None after
+sent-taken {S} {Symbol} {F} {EF} {O} {A} i found IsHanded IsFit sent absorbed r before after v x named same only bytes is p =
     record {
       value = v;
       fits = rw is (only.fits before.bytes x after.bytes bytes p.read);
@@ -36,18 +36,18 @@ sent-taken {S} {Symbol} {F} {EF} {O} {A} i found IsHanded IsFit sent absorbed pr
 -- the same where the driver was as it is then for a while
 pub sent-taken_then : {S Symbol F EF O A : Type 0} (i : Step) (found : Value F EF → Option A)
     (IsHanded IsFit : A → Type 0) (sent : A → Meaning S Symbol A) (absorbed : A → Absorbed F O)
-    (proving : A → Refusing S) (r : Reading S Symbol A) (before after there : Driving S) (v : Value F EF) (x : A) →
+    (r : Reading S Symbol A) (before after there : Driving S) (v : Value F EF) (x : A) →
     r.interaction ≡ i → r.effect x ≡ (sent x).effect → OnlyReads r IsFit sent → AreBytes before.bytes →
     found v ≡ Some x → Receives r before x after → there ≡ after →
-    TakesStep (sends i found IsHanded IsFit sent absorbed proving r) None before (v ∷ []) None there
-sent-taken_then i found IsHanded IsFit sent absorbed proving r before after there v x named same only bytes is p stays =
-    subst (λ d. TakesStep (sends i found IsHanded IsFit sent absorbed proving r) None before (v ∷ []) None d) (sym stays)
-    (sent-taken i found IsHanded IsFit sent absorbed proving r before after v x named same only bytes is p)
+    TakesStep (sends i found IsHanded IsFit sent absorbed) None before (v ∷ []) None there
+sent-taken_then i found IsHanded IsFit sent absorbed r before after there v x named same only bytes is p stays =
+    subst (λ d. TakesStep (sends i found IsHanded IsFit sent absorbed) None before (v ∷ []) None d) (sym stays)
+    (sent-taken i found IsHanded IsFit sent absorbed r before after v x named same only bytes is p)
 
 -- memory was refused
-pub memory-refused : {S Symbol F EF O : Type 0} (play : Play S Symbol F EF O) (witness : Option F) (before : Driving S)
-    (e : TranscriptError) → e ≡ OutOfMemory → IsRefused play witness before e
-memory-refused play witness before e is =
+pub memory-refused : {S F EF : Type 0} (sides : Sides S F EF) (witness : Option F) (before : Driving S)
+    (e : TranscriptError) → e ≡ OutOfMemory → IsRefused sides witness before e
+memory-refused sides witness before e is =
     record {
       after = record { transcript = halted before.transcript; bytes = before.bytes };
       refuses = inr (is, refl);

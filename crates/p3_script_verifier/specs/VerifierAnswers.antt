@@ -2,7 +2,8 @@
 use Rattle.std.specs.Prelude.{◌≡◌, ℕ, List, ◌⊎◌, ◌++◌, Option, Some, Result, MatchResult}
 use Rattle.p3_fs_core.specs.declared.error.TranscriptError.{TheVariants.OutOfMemory, TranscriptError}
 use Rattle.p3_runs.specs.{Fronts.Run, Rules.Rules, Verdicts.{Accepts, HasNoProof, RefusesProof}, Plays.Play}
-use Rattle.p3_runs.specs.{Stepping.{TakesStep, Halts}, Values.{Value, Challenge}, Runs.if_drawn}
+use Rattle.p3_runs.specs.{Sides.Sides, Stepping.{TakesStep, Halts}, Values.{Value, Challenge}, Runs.if_drawn}
+use Rattle.p3_script.specs.ScriptRefusals.{sides_of}
 use Rattle.p3_script.specs.Scripts.{play_of, values_received, challenges_of, received_of, drawn_of}
 use Rattle.p3_script.specs.declared.{fault.Fault.Fault, steps.{Drawn.Drawn, Received.Received}}
 use Rattle.p3_script_verifier.specs.declared.verifying.Verified.{Verified}
@@ -12,25 +13,25 @@ use Rattle.p3_drivers.specs.{Drivers.verifying_of, declared.{driver.DriverState.
 use Rattle.p3_script.specs.declared.steps.Step as script
 
 -- the step is played with the carried witness, if there is one, and this is received and drawn; or the step is refused
-pub record TakesOrRefuses {S Symbol F EF O R : Type 0} (play : Play S Symbol F EF O) (witness : Option F)
-    (before : Driving S) (received : R → List (Value F EF)) (drawn : R → Option (Challenge F EF))
+pub record TakesOrRefuses {S Symbol F EF O R : Type 0} (play : Play S Symbol F EF O) (sides : Sides S F EF)
+    (witness : Option F) (before : Driving S) (received : R → List (Value F EF)) (drawn : R → Option (Challenge F EF))
     (result : Result R TranscriptError) (after : Driving S) : Type 0 where
   pub comes : MatchResult result (λ r. TakesStep play witness before (received r) (drawn r) after)
-      (λ e. play.sides.verifier witness before e after ⊎ Halts before e after)
+      (λ e. sides.verifier witness before e after ⊎ Halts before e after)
 
 -- a verifier plays a script's step and returns what it received and drew, or the step is refused
 abbrev pub AnswersStep : {Su F EF U O C K Ac D G It St Sy : Type 0} {hasher : Ghosts D} → Rules St Sy It F EF O Ac →
     (C → St) → script.Step Su F EF U O C K Ac D G It St Sy → Option F → DriverState C U D Unread hasher →
     Result (Option (Received Su F EF U O C K Ac D G It St Sy) × Option (Drawn Su F EF U O C K Ac D G It St Sy))
     TranscriptError → DriverState C U D Unread hasher → Type 0
-AnswersStep rules state step witness before result after = TakesOrRefuses (play_of rules step) witness
-    (verifying_of state before) (λ r. received_of r.0) (λ r. drawn_of r.1) result (verifying_of state after)
+AnswersStep rules state step witness before result after = TakesOrRefuses (play_of rules step) (sides_of rules step)
+    witness (verifying_of state before) (λ r. received_of r.0) (λ r. drawn_of r.1) result (verifying_of state after)
 
 -- the step is refused, whatever state is left
-pub record IsRefused {S Symbol F EF O : Type 0} (play : Play S Symbol F EF O) (witness : Option F) (before : Driving S)
+pub record IsRefused {S F EF : Type 0} (sides : Sides S F EF) (witness : Option F) (before : Driving S)
     (e : TranscriptError) : Type 0 where
   pub after : Driving S
-  pub refuses : play.sides.verifier witness before e after ⊎ Halts before e after
+  pub refuses : sides.verifier witness before e after ⊎ Halts before e after
 
 -- a step is played, and what it received and drew is added to the earlier results
 pub record KeepsOne {S Symbol F EF O : Type 0} (play : Play S Symbol F EF O) (witness : Option F) (before : Driving S)
@@ -51,5 +52,5 @@ module _ {Su F EF U O C K Ac D G It St Sy S Symbol : Type 0} (rules : Rules S Sy
 
   -- the proof is refused at this position, for this reason; unless the reason is out of memory, the bytes are no proof
   abbrev pub IsRefusedProof : Fault → Type 0
-  IsRefusedProof fault = RefusesProof rules (play_of rules) script bytes carried fault.position fault.error
+  IsRefusedProof fault = RefusesProof rules (play_of rules) (sides_of rules) script bytes carried fault.position fault.error
       × ((fault.error ≡ OutOfMemory → ⊥) → HasNoProof rules (play_of rules) script bytes carried)

@@ -4,6 +4,7 @@ ghost use Rattle.p3_fs_core.specs.declared.error.TranscriptError.TheVariants.{Ou
 ghost use Rattle.p3_drivers.specs.Drivers.{verifying_of};
 ghost use Rattle.p3_runs.specs.{Runs.{AreAdmitted, carried_count, if_carried, if_drawn}, Verdicts.script_of};
 ghost use Rattle.p3_runs.specs.Stepping.{one_of, IsCarriedTo};
+ghost use Rattle.p3_script.specs.ScriptRefusals.{sides_of};
 ghost use Rattle.p3_script.specs.Scripts.{play_of, received_of, drawn_of, values_received, challenges_of};
 ghost use Rattle.p3_script_verifier.specs.VerifierAnswers.{IsRefused, KeepsOne, IsVerifiedScript, IsRefusedProof};
 
@@ -89,7 +90,7 @@ fn take_step<'a, S: Suite>(
         witness (verifying_of S.Challenger.state verifier.old) (values_received received.old.items)
         (challenges_of challenges.old.items) (verifying_of S.Challenger.state verifier.new)
         (values_received received.new.items) (challenges_of challenges.new.items)) }
-    ensures err { IfErr result (IsRefused (play_of (⟦<S as Meaning>⟧.rules S.Field.DIMENSION)
+    ensures err { IfErr result (IsRefused (sides_of (⟦<S as Meaning>⟧.rules S.Field.DIMENSION)
         step.now) witness (verifying_of S.Challenger.state verifier.old)) }
 {
     let (value, drawn) = verifier_step(alloc, verifier, step, witness)?;

@@ -4,7 +4,7 @@ use Rattle.p3_challenger.specs.DomainSeparator.{DomainSeparator}
 use Rattle.p3_challenger.specs.TranscriptError.{TranscriptError, TheVariants.OutOfMemory}
 use Rattle.p3_challenger.specs.{Fronts.Run, Provings.{IsProved, RefusesToProve, IsProverRun}, Rules.Rules}
 use Rattle.p3_challenger.specs.{Values.{Value, Challenge}, Verdicts.{Accepts, HasNoProof, RefusesProof, script_of, with_steps}}
-use Rattle.p3_challenger.specs.{Scripts.play_of, Fault.Fault}
+use Rattle.p3_challenger.specs.{Scripts.play_of, ScriptRefusals.sides_of, Fault.Fault}
 use Rattle.tealmuze_c.specs.Descriptions.{Describes}
 use Rattle.tealmuze_c.specs.Forms.{number_bytes, counted_bytes, listed_bytes, scalar_bytes, value_bytes, challenge_bytes}
 use Rattle.p3_challenger.specs.Step as script
@@ -35,7 +35,7 @@ module _ {Su F EF U O C K Ac D G It St Sy : Type 0} (rules : Rules St Sy It F EF
     pub carried_are : map number witnesses ≡ carried
     pub position : ℕ
     pub error : TranscriptError
-    pub refuses : RefusesProof rules (play_of rules) run proof witnesses position error
+    pub refuses : RefusesProof rules (play_of rules) (sides_of rules) run proof witnesses position error
     pub is_none : HasNoProof rules (play_of rules) run proof witnesses
     pub reason : List ℕ
     pub told_is : told ≡ number_bytes position ++ reason
@@ -63,7 +63,7 @@ module _ {Su F EF U O C K Ac D G It St Sy : Type 0} (rules : Rules St Sy It F EF
   pub record TellsUnproved (sent : List (Value F EF)) (told : List ℕ) : Type 0 where
     pub position : ℕ
     pub error : TranscriptError
-    pub refuses : RefusesToProve rules (play_of rules) run sent position error
+    pub refuses : RefusesToProve rules (play_of rules) (sides_of rules) run sent position error
     pub is_none : (values : List (Value F EF)) → IsProverRun rules (play_of rules) (with_steps run run.steps values) sent → ⊥
     pub reason : List ℕ
     pub told_is : told ≡ number_bytes position ++ reason

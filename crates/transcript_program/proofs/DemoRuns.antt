@@ -2,7 +2,7 @@
 use Rattle.std.proofs.Common.{◌≡◌, ℕ, List, [], ◌∷◌, ◌++◌, Option, Some, None, IsSome, refl, ap, sym, ◌∙◌, subst}
 use Rattle.std.specs.{declared.alloc.Global.Global, Borrow.Bor, Option.option_map, Prelude.Vec}
 use Rattle.p3_challenger.specs.{Values.{scalars_in, witness_in, bytes_in, Value}, Working.checking}
-use Rattle.p3_challenger.specs.{Effects.{drawing_list, drawing}, Verdicts.Accepts, Sides.holds_some, Hash.Hash}
+use Rattle.p3_challenger.specs.{Effects.{drawing_list, drawing}, Verdicts.Accepts, Plays.holds_some, Hash.Hash}
 use Rattle.p3_challenger.specs.{Plays.{no_challenge, HasLength, HasAtMost, Play}, Scripts.{play_of, work_in}}
 use Rattle.p3_challenger.specs.Runs.{challenges, Finishes, in_proof, if_drawn}
 use Rattle.p3_field.specs.{Coeffs.Coeffs, BabyBearResidues.BabyBear}

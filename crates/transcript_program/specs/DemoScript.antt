@@ -1,7 +1,7 @@
 -- The demo protocol as a script, and what its two sides answer.
 use Rattle.std.specs.{declared.alloc.Global.Global, Borrow.Bor, Prelude.{◌≡◌, ℕ, List, [], ◌∷◌, Vec, codes}}
 use Rattle.p3_challenger.specs.{TranscriptError.{TheVariants.OutOfMemory, TranscriptError}, SeparatorSeed.separator_of}
-use Rattle.p3_challenger.specs.{Scripts.play_of, Verdicts.{Accepts, RefusesProof, HasNoProof, with_steps}}
+use Rattle.p3_challenger.specs.{Scripts.play_of, ScriptRefusals.sides_of, Verdicts.{Accepts, RefusesProof, HasNoProof, with_steps}}
 use Rattle.p3_challenger.specs.{PatternSteps.steps_of, DomainSeparator.DomainSeparator, HashCalls.with_pending}
 use Rattle.p3_challenger.specs.Provings.{IsProved, RefusesToProve, IsProverRun}
 use Rattle.p3_field.specs.BabyBearResidues.{BabyBear}
@@ -104,7 +104,7 @@ module _ (rules : DemoRules) where
     pub run : DemoRun
     pub is_demo : IsDemo ask.inputs.items run
     pub position : ℕ
-    pub refuses : RefusesToProve rules (play_of rules) run (sent_by ask) position e
+    pub refuses : RefusesToProve rules (play_of rules) (sides_of rules) run (sent_by ask) position e
     pub no_run : (e ≡ OutOfMemory → ⊥) → (values : List DemoValue) →
         IsProverRun rules (play_of rules) (with_steps run run.steps values) (sent_by ask) → ⊥
 
@@ -123,5 +123,5 @@ module _ (rules : DemoRules) where
     pub run : DemoRun
     pub is_demo : IsDemo inputs run
     pub position : ℕ
-    pub refuses : RefusesProof rules (play_of rules) run bytes [] position e
+    pub refuses : RefusesProof rules (play_of rules) (sides_of rules) run bytes [] position e
     pub no_proof : (e ≡ OutOfMemory → ⊥) → HasNoProof rules (play_of rules) run bytes []

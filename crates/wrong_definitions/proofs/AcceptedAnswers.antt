@@ -9,7 +9,7 @@ use Rattle.p3_domain_separator.specs.{Seed.identifier, SeparatorSeed.pattern_of}
 use Rattle.p3_domain_separator.specs.declared.domain_separator.DomainSeparator.{DomainSeparator}
 use Rattle.p3_driver_core.specs.Transcripts.{bytes_step}
 use Rattle.p3_runs.specs.{Fronts.{Run, IsFinished, symbols, last}, Plays.{Play, HasLength, when_some}, Rules.Rules}
-use Rattle.p3_runs.specs.{Sides.holds_some, Absorbed.Absorbed, Values.{Value, Challenge, bytes_in}}
+use Rattle.p3_runs.specs.{Plays.holds_some, Absorbed.Absorbed, Values.{Value, Challenge, bytes_in}}
 use Rattle.p3_runs.specs.{Provings.IsProved, Verdicts.{Accepts, with_steps}}
 use Rattle.p3_binding.specs.{Binding.{AreBound, IsHeld}, Hints.ReceivedButHints}
 use Rattle.p3_script.specs.Scripts.{play_of}

@@ -8,7 +8,7 @@ use Rattle.p3_patterns.specs.{PatternSteps.PatternSteps, Playing.next_step}
 use Rattle.p3_driver_core.specs.{Driving.Driving, Transcripts.{Transcript, IsOtherLength, another_length, halted}}
 use Rattle.p3_runs.specs.{Plays.Play, Rules.Rules, Sides.{Refusing, Sides}, Stepping.{CanTake, CanSend, OrHalts}}
 use Rattle.p3_runs.specs.Stepping.{RefuseForOneReason}
-use Rattle.p3_script.specs.{Scripts.play_of, ScriptLaws.{AreAllCanonical, AreTakenWherePossible, AreSentWherePossible}}
+use Rattle.p3_script.specs.{Scripts.play_of, ScriptRefusals.sides_of, ScriptLaws.{AreAllCanonical, AreTakenWherePossible, AreSentWherePossible}}
 use Rattle.p3_fs_core.specs.declared.step.Kind.TheVariants as kind
 use Rattle.p3_fs_core.specs.declared.step.Length.TheVariants as lengths
 use Rattle.p3_runs.specs.Values as value
@@ -80,7 +80,7 @@ limited_at_times-taken_not : ¬ (AreTakenWherePossible Nil Nil Nil Nil Nil Nil �
 limited_at_times-taken_not told =
     let start : Driving ℕ = driving (before challenge_pattern) in
     let end : Driving ℕ = driving (halted (before challenge_pattern)) in
-    let refuses : drawing.sides.verifier None start (Challenger DrawLimit) end =
+    let refuses : (sides_of limited_at_times challenge).verifier None start (Challenger DrawLimit) end =
     (record { is_next = (refl, refl); leaves = (tt, refl); finished = refl }, refl) in
     let can : CanTake drawing start value.Nothing =
     record { is_next = (refl, refl); fits = tt; short = tt; gives = refl; left = []; next = refl } in
@@ -92,7 +92,7 @@ limited_at_times-sent_not : ¬ (AreSentWherePossible Nil Nil Nil Nil Nil Nil ℕ
 limited_at_times-sent_not told =
     let start : Driving ℕ = driving (before challenge_pattern) in
     let end : Driving ℕ = driving (halted (before challenge_pattern)) in
-    let refuses : drawing.sides.prover value.Nothing start (Challenger DrawLimit) end =
+    let refuses : (sides_of limited_at_times challenge).prover value.Nothing start (Challenger DrawLimit) end =
     (record { is_next = (refl, refl); leaves = (tt, refl); finished = refl }, refl) in
     let can : CanSend drawing start value.Nothing =
     record { is_next = (refl, refl); fits = tt; short = tt; gives = refl; chosen = tt } in
@@ -119,9 +119,9 @@ abbrev none_observed : Step
 none_observed = step.ObserveExtensions (label (codes "a")) (separator one_pattern).instance_label
 
 also_length-refused : ¬ ((x : Step) → (play_of rules x).admitted →
-    RefuseForOneReason (also_refuses_none (play_of rules x).sides))
+    RefuseForOneReason (also_refuses_none (sides_of rules x)))
 also_length-refused told =
-    let sides : Sides ℕ ℕ ℕ = also_refuses_none (play_of rules none_observed).sides in
+    let sides : Sides ℕ ℕ ℕ = also_refuses_none (sides_of rules none_observed) in
     let start : Driving ℕ = driving (halted (before one_pattern)) in
     let length : OrHalts (sides.verifier None) start (BadProofShape (label another_length)) start =
     inl (inl ((λ (same : ◌≡◌ {A = ℕ} 1 0). absurd (omega (arith, same))), refl)) in

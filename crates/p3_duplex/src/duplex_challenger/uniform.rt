@@ -67,6 +67,7 @@ impl<
 
     // The first element below a bound, of as many as the draw limit allows. Mostly it is the next one: fewer than half
     // of all elements are not below their bound.
+    #[inline(always)]
     fn first_below(&mut self, bound: u64) -> Result<F, ChallengerError>
         ensures { DrawsOrRefuses (accepted_within (base_draw F.residues P.permutation RATE)
             (is_below F.residues bound) draws_allowed) self.old result self.new }
@@ -96,6 +97,7 @@ impl<
     }
 
     // An element below the bound for so many bits: the next one, or the first one where others may be drawn.
+    #[inline(always)]
     fn uniform_element(&mut self, bits: usize, resample: bool) -> Result<F, UniformBitsError>
         ensures { let u = single F.residues P.permutation RATE resample bits in MatchResult result
             (λ x. (u.draw.sampled self.old ≡ Some (low_bits F.residues bits x))
@@ -115,6 +117,8 @@ impl<
     }
 
     // So many bits of one element.
+    // It is written out at each call: else each draw writes its result into memory and reads it back.
+    #[inline(always)]
     fn single_bits(&mut self, bits: usize, resample: bool) -> Result<usize, UniformBitsError>
         requires { bits < 64 }
         ensures drawn { DrawsUniformly (single F.residues P.permutation RATE resample bits)
@@ -126,6 +130,7 @@ impl<
     }
 
     // So many bits in two halves, the low one first.
+    #[inline(never)]
     fn halved_bits(&mut self, bits: usize, resample: bool) -> Result<usize, UniformBitsError>
         requires { bits < 64 }
         ensures { DrawsUniformly

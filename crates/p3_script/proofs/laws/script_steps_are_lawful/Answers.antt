@@ -8,7 +8,8 @@ use Rattle.p3_runs.specs.Rules.{Rules}
 use Rattle.p3_script.{proofs.{Canonical.step-canonical, Determined.step-determined}, specs.SuiteRules.rules_of}
 use Rattle.p3_script.proofs.Possible.{IsRefusedForMemory, known_with-refused, known-refused, counted-refused}
 use Rattle.p3_script.proofs.Possible.{sends-refused, within_refused, untouched-tells, witness-refused, carried-refused}
-use Rattle.p3_script.{specs.Scripts.{play_of, list_sent, counted_known}, proofs.laws.script_steps_are_lawful.Given.Over}
+use Rattle.p3_script.{specs.{Scripts.{play_of, list_sent, counted_known}, ScriptRefusals.sides_of}}
+use Rattle.p3_script.proofs.laws.script_steps_are_lawful.Given.{Over}
 use Rattle.std.specs.Prelude as list
 use Rattle.p3_fs_core.specs.declared.step.Kind.TheVariants as kind
 use Rattle.p3_fs_core.specs.declared.step.Length.TheVariants as lengths
@@ -43,7 +44,7 @@ returns g c =
     refused : {Su U C K D G It St Sy : Type 0} (x : script.Step Su g.row.S-Field.Denot g.row.S-Extension.Denot U
         g.row.S-Opaque.Denot C K g.row.S-Accept.Denot D G It St Sy) →
         FitsLength (play_of (rules g) x).interaction.length → (play_of (rules g) x).admitted →
-        IsRefusedForMemory (play_of (rules g) x)
+        IsRefusedForMemory (play_of (rules g) x) (sides_of (rules g) x)
     refused (step.Salt label len) fits may =
         sends-refused _ bytes_in _ _ _ _ _ _ (λ x is. cc) (λ x s. refl) c.bytes_tell_limits.ensures.fixed
         (λ x before after e is going h. h) (λ x is.

@@ -8,36 +8,36 @@ use Rattle.p3_script.proofs.reasons.script_steps_are_refused_for_one_reason.Goal
 
 pub returns : goal.returns
 returns g c (step.Salt label len) may =
-    sent-one_reason bytes_in _ _ _
+    sent-one_reason bytes_in _ _
     (λ x. written _ (c.bytes_are_refused_for_one_reason.ensures.fixed kind.Salt label.now x))
     (c.bytes_are_unread_for_one_reason.ensures.fixed _ _ len)
 returns g c (step.Bytes label len) may =
-    sent-one_reason bytes_in _ _ _
+    sent-one_reason bytes_in _ _
     (λ x. written _ (c.bytes_are_refused_for_one_reason.ensures.fixed kind.Message label.now x))
     (c.bytes_are_unread_for_one_reason.ensures.fixed _ _ len)
 returns g c (step.BytesBounded label max) may =
-    sent-one_reason bytes_in _ _ _
+    sent-one_reason bytes_in _ _
     (λ x. written_within _ _ _ (c.bytes_are_refused_for_one_reason.ensures.within kind.Message label.now max x))
     (c.bytes_are_unread_for_one_reason.ensures.counted _ max)
 returns g c (step.Hint label len) may =
-    sent-one_reason bytes_in _ _ _ (λ x. written _ (c.hints_are_refused_for_one_reason.ensures.fixed label.now x))
+    sent-one_reason bytes_in _ _ (λ x. written _ (c.hints_are_refused_for_one_reason.ensures.fixed label.now x))
     (c.hints_are_unread_for_one_reason.ensures.fixed _ len)
 returns g c (step.HintBounded label max) may =
-    sent-one_reason bytes_in _ _ _
+    sent-one_reason bytes_in _ _
     (λ x. written_within _ _ _ (c.hints_are_refused_for_one_reason.ensures.within label.now max x))
     (c.hints_are_unread_for_one_reason.ensures.counted _ max)
 returns g c (step.Scalar label) may =
-    sent-one_reason scalar_in _ _ _ (λ x. written _ (c.values_are_refused_for_one_reason.ensures.sent _ x))
+    sent-one_reason scalar_in _ _ (λ x. written _ (c.values_are_refused_for_one_reason.ensures.sent _ x))
     (c.values_are_unread_for_one_reason.ensures.value _)
 returns g c (step.Scalars label n) may =
-    sent-one_reason scalars_in _ _ _ (λ x. written _ (c.values_are_refused_for_one_reason.ensures.sent_list _ x))
+    sent-one_reason scalars_in _ _ (λ x. written _ (c.values_are_refused_for_one_reason.ensures.sent_list _ x))
     (c.values_are_unread_for_one_reason.ensures.list _ n)
 returns g c (step.ScalarsBounded label max) may =
-    sent-one_reason scalars_in _ _ _
+    sent-one_reason scalars_in _ _
     (λ x. written_within _ _ _ (c.values_are_refused_for_one_reason.ensures.sent_within _ max x))
     (c.values_are_unread_for_one_reason.ensures.counted _ max)
 returns g c (step.Extension label) may =
-    sent-one_reason extension_in _ _ _ (λ x. written _ (c.values_are_refused_for_one_reason-2.ensures.sent _ x))
+    sent-one_reason extension_in _ _ (λ x. written _ (c.values_are_refused_for_one_reason-2.ensures.sent _ x))
     (c.values_are_unread_for_one_reason-2.ensures.value _)
 returns g c (step.ChallengeScalar label) may =
     same-one_reason _ (λ s t u e f p q. c.draws_are_refused_for_one_reason.ensures.value _ _ _ _ e f p.0 q.0)

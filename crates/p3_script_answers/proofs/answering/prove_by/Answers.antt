@@ -12,7 +12,7 @@ returns-in-Err-clause-stopped g c =
       given = [];
       last = c.args.answers;
       in_turn = refl;
-      stops = seed-refused _ _ _ c.script_steps_are_lawful.ensures.determined c.script_steps_are_lawful.ensures.sent
+      stops = seed-refused _ _ _ _ c.script_steps_are_lawful.ensures.determined c.script_steps_are_lawful.ensures.sent
           c.requires.admitted _ c.in-Err.ensures.err;
     }
 
@@ -53,7 +53,7 @@ returns-in-Err-play_answered-clause-stopped g c =
       last = c.ask.new.answers;
       in_turn = (asked-on _ _ _ _ _ _ _ c.loop-position.position _ at _ _ _ _ _ lent c.loop-position.invariant.played
           c.loop-position.invariant.answered _ c.in-Ok-ask.ensures.asked _ refl).so;
-      stops = first-refused _ _ _ c.script_steps_are_lawful.ensures.determined c.script_steps_are_lawful.ensures.sent
+      stops = first-refused _ _ _ _ c.script_steps_are_lawful.ensures.determined c.script_steps_are_lawful.ensures.sent
           c.requires.admitted _ c.loop-position.position _ _ _ _ c.loop-position.invariant.played _ at _ _
           (answer-adds _ c.in-Ok-ask.value _ _ (asked-answer _ _ _ _ _ _ _ c.in-Ok-ask.ensures.asked) refl) _ _
           c.in-Err-play_answered.ensures.played.comes;
@@ -77,7 +77,7 @@ loop-position-preserved g c =
 pub returns-in-Ok-finish-clause-proved : goal.returns-in-Ok-finish-clause-proved
 returns-in-Ok-finish-clause-proved g c =
     let past : length c.args.steps.now ≤ c.loop-position.position = omega arith in
-    let p = first-end _ _ _ c.script_steps_are_lawful.ensures.determined c.script_steps_are_lawful.ensures.sent
+    let p = first-end _ _ _ _ c.script_steps_are_lawful.ensures.determined c.script_steps_are_lawful.ensures.sent
     c.requires.admitted _ c.loop-position.position _ _ _ _ c.loop-position.invariant.played past _ _
     c.in-Ok-finish.ensures.ok.0 c.in-Ok-finish.ensures.ok.1 c.in-Ok-finish.ensures.ok.2 in
     rw (c.assemble.ensures.narg, c.assemble.ensures.sent, c.assemble.ensures.witnesses, c.assemble.ensures.carried, c.assemble.ensures.challenges, c.assemble.ensures.challenger)
@@ -90,7 +90,7 @@ returns-clause-stopped g c =
       given = c.loop-position.made.sent.items;
       last = c.loop-position.answers;
       in_turn = c.loop-position.invariant.answered.so;
-      stops = end-refused _ _ _ c.script_steps_are_lawful.ensures.determined c.script_steps_are_lawful.ensures.sent
+      stops = end-refused _ _ _ _ c.script_steps_are_lawful.ensures.determined c.script_steps_are_lawful.ensures.sent
           c.requires.admitted _ c.loop-position.position _ _ _ _ c.loop-position.invariant.played past _
           c.in-Err-finish.ensures.err;
     }

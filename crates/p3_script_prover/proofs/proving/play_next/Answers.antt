@@ -13,14 +13,14 @@ returns-in_err-witness g c =
     let p = err_from_is_err_and c.from_residual.result c.from_residual.ensures.1 in
     let n = handed-next _ c.standing_of-standing.result c.args.sent.now c.args.next.now c.given_at-given.result
     c.standing_of-standing.ensures c.given_at-given.ensures.given c.requires.handed in
-    rw (p.1, p.2) (record { comes = refused-next _ _ _ _ _ _ _ _ n c.in_err-witness.ensures.comes })
+    rw (p.1, p.2) (record { comes = refused-next _ _ _ _ _ _ _ _ _ n c.in_err-witness.ensures.comes })
 
 pub returns-in-Err : goal.returns-in-Err
 returns-in-Err g c =
     let n = handed-next _ c.standing_of-standing.result c.args.sent.now c.args.next.now c.given_at-given.result
     c.standing_of-standing.ensures c.given_at-given.ensures.given c.requires.handed in
     record {
-      comes = refused-next _ _ _ _ _ _ _ _ n
+      comes = refused-next _ _ _ _ _ _ _ _ _ n
           (inr (refl, ap (λ (t : Transcript g.row.S-Challenger-State.Denot). t.playing.finished) c.halt.ensures.transcript));
     }
 

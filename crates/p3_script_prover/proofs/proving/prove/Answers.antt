@@ -38,8 +38,8 @@ pub returns-in-Err-play_next-clause-refused : goal.returns-in-Err-play_next-clau
 returns-in-Err-play_next-clause-refused g c =
     let here : c.loop-i.i < length c.args.steps.now = omega arith in
     let next = part-on c.args.steps.now c.loop-i.i c.index-steps-i.result here c.index-steps-i.is in (
-      next-refused _ _ _ _ c.loop-i.i _ _ _ _ _ _ _ _ next c.loop-i.invariant c.in-Err-play_next.ensures.comes,
-      next-never _ _ _ _ c.loop-i.i _ _ _ _ _ _ _ _ c.loop-i.invariant c.script_steps_are_lawful.ensures.determined next
+      next-refused _ _ _ _ _ c.loop-i.i _ _ _ _ _ _ _ _ next c.loop-i.invariant c.in-Err-play_next.ensures.comes,
+      next-never _ _ _ _ _ c.loop-i.i _ _ _ _ _ _ _ _ c.loop-i.invariant c.script_steps_are_lawful.ensures.determined next
           c.in-Err-play_next.ensures.comes c.script_steps_are_lawful.ensures.sent c.requires.admitted,
     )
 
@@ -47,7 +47,7 @@ pub returns-in-Err-finish-clause-refused : goal.returns-in-Err-finish-clause-ref
 returns-in-Err-finish-clause-refused g c =
     let past : length c.args.steps.now ≤ c.loop-i.i = omega arith in (
       inr (inr (proves-not_ended _ _ _ _ c.loop-i.i _ _ _ _ _ past c.loop-i.invariant _ c.in-Err-finish.ensures.err)),
-      end-never _ _ _ _ c.loop-i.i _ _ _ _ _ _ c.loop-i.invariant c.script_steps_are_lawful.ensures.determined past
+      end-never _ _ _ _ _ c.loop-i.i _ _ _ _ _ _ c.loop-i.invariant c.script_steps_are_lawful.ensures.determined past
           c.in-Err-finish.ensures.err c.script_steps_are_lawful.ensures.sent c.requires.admitted,
     )
 

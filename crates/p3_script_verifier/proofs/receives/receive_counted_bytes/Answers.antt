@@ -7,6 +7,6 @@ use Rattle.p3_script_verifier.proofs.receives.receive_counted_bytes.Goals as goa
 pub returns : goal.returns
 returns g c =
     record {
-      comes = sent-taken _ bytes_in _ _ _ _ _ _ _ _ _ _ refl refl (c.read_bytes_are_encoded.ensures.counted _ _)
+      comes = sent-taken _ bytes_in _ _ _ _ _ _ _ _ _ refl refl (c.read_bytes_are_encoded.ensures.counted _ _)
           (subst (λ (l : List ℕ). AreBytes l) c.unread-unread.ensures.unread c.unread-unread.ensures.bytes) refl c.in_ok-bytes.ensures.exact;
     }

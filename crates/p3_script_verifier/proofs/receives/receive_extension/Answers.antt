@@ -7,6 +7,6 @@ use Rattle.p3_script_verifier.proofs.receives.receive_extension.Goals as goal
 pub returns : goal.returns
 returns g c =
     record {
-      comes = sent-taken _ extension_in _ _ _ _ _ _ _ _ _ _ refl refl (c.read_values_are_encoded.ensures.value _)
+      comes = sent-taken _ extension_in _ _ _ _ _ _ _ _ _ refl refl (c.read_values_are_encoded.ensures.value _)
           (subst (λ (l : List ℕ). AreBytes l) c.unread-unread.ensures.unread c.unread-unread.ensures.bytes) (ap Some c.into_inner.ensures) c.in_ok-bound.ensures;
     }

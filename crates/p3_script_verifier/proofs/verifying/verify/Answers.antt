@@ -42,21 +42,21 @@ loop-position-preserved g c =
 pub returns-in-Ok-finish-clause-accepted : goal.returns-in-Ok-finish-clause-accepted
 returns-in-Ok-finish-clause-accepted g c =
     let past : length c.args.steps.now ≤ c.loop-position.position = omega arith in
-    follows-accepts _ _ _ _ _ c.script_steps_are_lawful.ensures.canonical c.script_steps_are_lawful.ensures.taken
+    follows-accepts _ _ _ _ _ c.script_steps_are_lawful.ensures.canonical
     c.loop-position.position c.loop-position.used _ _ _ _ past c.loop-position.invariant c.in-Ok-finish.ensures.ok.0
     c.in-Ok-finish.ensures.ok.1
 
 pub returns-in-Err-clause-refused : goal.returns-in-Err-clause-refused
 returns-in-Err-clause-refused g c =
-    refused-so _ _ c.script_steps_are_lawful.ensures.canonical c.script_steps_are_lawful.ensures.taken (script_of _ _ _) _
+    refused-so _ _ c.script_steps_are_lawful.ensures.canonical _ c.script_steps_are_lawful.ensures.taken (script_of _ _ _) _
     _ 0 _ c.requires.admitted (inl (refl, c.in-Err.ensures.err))
 
 pub returns-in-Err-taken-clause-refused : goal.returns-in-Err-taken-clause-refused
 returns-in-Err-taken-clause-refused g c =
     let here : c.loop-position.position < length c.args.steps.now = omega arith in
-    refused-so _ _ c.script_steps_are_lawful.ensures.canonical c.script_steps_are_lawful.ensures.taken (script_of _ _ _)
+    refused-so _ _ c.script_steps_are_lawful.ensures.canonical _ c.script_steps_are_lawful.ensures.taken (script_of _ _ _)
     _ _ c.loop-position.position _ c.requires.admitted
-    (inr (inl (follows-refused _ _ _ _ _ c.loop-position.position c.loop-position.used _ _ _ _ _ _ _ _
+    (inr (inl (follows-refused _ _ _ _ _ _ c.loop-position.position c.loop-position.used _ _ _ _ _ _ _ _
     (part-on c.args.steps.now c.loop-position.position c.index-steps-position.result here c.index-steps-position.is)
     c.witness_for-witness.ensures.uses
     (c.witness_for-witness.ensures.carried
@@ -68,7 +68,7 @@ returns-in-Err-taken-clause-refused g c =
 pub returns-clause-refused : goal.returns-clause-refused
 returns-clause-refused g c =
     let past : length c.args.steps.now ≤ c.loop-position.position = omega arith in
-    refused-so _ _ c.script_steps_are_lawful.ensures.canonical c.script_steps_are_lawful.ensures.taken (script_of _ _ _)
+    refused-so _ _ c.script_steps_are_lawful.ensures.canonical _ c.script_steps_are_lawful.ensures.taken (script_of _ _ _)
     _ _ _ _ c.requires.admitted
     (inr (inr (follows-not_ended _ _ _ _ _ c.loop-position.position c.loop-position.used _ _ _ past
     c.loop-position.invariant _ c.in-Err-finish.ensures.err)))

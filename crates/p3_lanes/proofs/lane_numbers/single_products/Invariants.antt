@@ -1,5 +1,5 @@
 use Rattle.std.specs.Prelude.{◌≡◌, ℕ, ◌*◌, ◌%◌, ◌<◌, length, slice_index}
-use Rattle.p3_lanes.proofs.lane_numbers.lane_products.Given as goal
+use Rattle.p3_lanes.proofs.lane_numbers.single_products.Given as goal
 
 -- all lanes are there, and each so far has the product
 abbrev pub invariant-lanes : goal.invariant-lanes

@@ -1,6 +1,6 @@
 use Rattle.std.proofs.{Common.{◌*◌, ◌%◌, ◌<◌, ◌∙◌, length, slice_index, inl, inr, sym, ap, arith}, lemmas.Bool.cases_eq}
 use Rattle.std.proofs.lemmas.{List.{length-set, get_or-set_other}, Grind.get_or-set_at}
-use Rattle.p3_lanes.proofs.lane_numbers.lane_products.Goals as goal
+use Rattle.p3_lanes.proofs.lane_numbers.single_products.Goals as goal
 
 pub product-requires : goal.product-requires
 product-requires g c = omega (arith, c.requires.left c.lanes.l (omega (arith, c.lanes-test.true)))
