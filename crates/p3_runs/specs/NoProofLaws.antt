@@ -66,7 +66,7 @@ module _ {X S Symbol I F EF O Ac U D : Type 0} (rules : Rules S Symbol I F EF O 
           ]
         ]
 
-  -- a refusal, with its consequences
+    -- a refusal, with its consequences
     pub refused-so : (script : Run X F EF S U D) (bytes : List ℕ) (carried : List F) (position : ℕ)
         (e : TranscriptError) → AreAdmitted play script.steps →
         RefusesProof rules play sides script bytes carried position e →
