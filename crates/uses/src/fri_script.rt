@@ -3,13 +3,13 @@
 //! before it.
 //!
 //! The steps are data, and their pattern is made of them. The prover's code is a closure that gives the next message.
-//! Nothing is proved of it but that it ends: the contract of [`prove`] holds of the messages that it gave, and that of
-//! [`verify`], which bytes are accepted, of any prover.
+//! Nothing is proved of it but that it ends. The contract of [`verify`] says which bytes are accepted, and holds for any
+//! prover.
 //!
 //! Layers are of the base field here, and a tree is of one leaf, which has the whole layer.
 ghost use Rattle.std.specs.Prelude.{◌≡◌, [], IfOk, IfErr};
-ghost use Rattle.p3_challenger.specs.{HashCalls.with_pending, ProverAnswers.IsProvedScript, Verdicts.script_of};
-ghost use Rattle.p3_challenger.specs.{Runs.{AreAdmitted, carried_count}, Scripts.{play_of, values_sent}};
+ghost use Rattle.p3_challenger.specs.{HashCalls.with_pending, Verdicts.script_of};
+ghost use Rattle.p3_challenger.specs.{Runs.{AreAdmitted, carried_count}, Scripts.play_of};
 ghost use Rattle.p3_challenger.specs.VerifierAnswers.{IsVerifiedScript, IsRefusedProof};
 
 use p3_challenger::fs::script::{
@@ -113,9 +113,6 @@ pub fn prove(
     layer: Vec<BabyBear>,
 ) -> Result<Answered<Fri>, ProveByError<FoldError>>
     requires admitted { AreAdmitted (play_of (⟦<Fri as Meaning>⟧.rules 1)) steps.now }
-    ensures proved { IfOk result (λ answered. IsProvedScript (⟦<Fri as Meaning>⟧.rules 1)
-        (script_of (record { sponge = with_pending []; hasher = record {} }) separator.now steps.now)
-        (values_sent answered.sent.items) ⟦<Challenger as Sponge>⟧.state answered.proved) }
 {
     let mut folding = Folding { layer, folds: 0 };
     script::prove_by::<Fri, FoldError, _>(
