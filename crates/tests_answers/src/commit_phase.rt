@@ -100,19 +100,23 @@ fn roots_depend_on_the_challenges_before_them(rt: HostRuntime) {
 
 // ---- what is not
 
-fn zeros<const N: usize>(alloc: Global) -> Result<Vec<u8>, AllocError> {
-    Ok(Vec::from_array(alloc, [0; N])?)
+fn zeros(alloc: Global, count: usize) -> Result<Vec<u8>, AllocError> {
+    let mut zeros = Vec::new(alloc);
+    for _ in 0..count {
+        zeros.push(0)?;
+    }
+    Ok(zeros)
 }
 
 // As many bytes as a root has at the first step, and one less later; or an error.
 fn short_root(alloc: Global, position: usize, gives_up: bool) -> Result<Sent<Fri>, FoldError> {
     if position == 1 {
-        return Ok(Sent::Bytes(zeros::<32>(alloc)?));
+        return Ok(Sent::Bytes(zeros(alloc, 32)?));
     }
     if gives_up {
         return Err(FoldError::OtherSteps);
     }
-    Ok(Sent::Bytes(zeros::<31>(alloc)?))
+    Ok(Sent::Bytes(zeros(alloc, 31)?))
 }
 
 // Why the commit phase stops where the second root is short, or not given.
