@@ -103,7 +103,7 @@ impl From<AllocError> for FoldError {
     }
 }
 
-/// Proves that the layer was folded to one value.
+/// Proves that the layer was folded to one value. No clause says so: tests alone compare what it sends.
 ///
 /// Condition: the suite has the steps, as [`script::admitted`] says.
 pub fn prove(
