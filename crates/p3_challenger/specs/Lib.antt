@@ -1,4 +1,9 @@
+pub mod AheadLaws
+pub mod BegunLaws
 pub mod Dependence
+pub mod EitherLaws
+pub mod OneAcceptedLaws
+pub mod ReadsLaws
 pub use Rattle.p3_symmetric.specs.Turn
 pub use Rattle.p3_symmetric.specs.Digests
 pub use Rattle.p3_symmetric.specs.HashValueLaws

@@ -8,4 +8,4 @@ mod matching;
 
 pub use admission::admitted;
 pub use fitting::{fits, pattern};
-pub use matching::{carried_len, sent_matches};
+pub use matching::{carried_len, sent_matches, step_matches};

@@ -1,8 +1,10 @@
 //! Whether values are right to send at a script's steps, and how many witnesses the verifier's caller carries.
 ghost use Rattle.std.specs.Prelude.{◌≡◌, ◌↔◌, IsTrue};
 ghost use Rattle.p3_runs.specs.{Provings.AreHanded, Runs.carried_count};
+ghost use Rattle.p3_runs.specs.Values.Nothing;
 ghost use Rattle.p3_script.specs.Scripts.{play_of, value_sent, values_sent};
 ghost use Rattle.p3_script_checks.specs.Places.{is_handed_at, is_carried_at};
+ghost use Rattle.p3_script_prover.specs.ProverAnswers.value_given;
 
 use p3_challenger_core::Sponge;
 use p3_script::{Meaning, Sent, Standing, Step, Suite, standing_of};
@@ -25,6 +27,19 @@ pub fn sent_matches<S: Suite>(steps: &[Step<S>], sent: &[Sent<S>]) -> bool
         }
     }
     at == sent.len()
+}
+
+/// Returns whether a prover can be handed this value for this step, or nothing for a step that sends none.
+///
+/// `prover_step` requires this of its value. Not in the Rust crate.
+pub fn step_matches<S: Suite>(step: &Step<S>, sent: Option<&Sent<S>>) -> bool
+    ensures { let rules = ⟦<S as Meaning>⟧.rules S.Field.DIMENSION in
+        IsTrue result ↔ (play_of rules step.now).IsHanded (value_given sent) }
+{
+    match sent {
+        Some(value) => is_handed(step, value),
+        None => sends_nothing(step),
+    }
 }
 
 /// Returns how many witnesses a verifier's caller carries to the steps: one for each `ObservePow`.
@@ -57,6 +72,25 @@ fn is_carried<S: Suite>(step: &Step<S>) -> bool
         result ≡ is_carried_at (play_of rules step.now).place }
 {
     matches!(standing_of(step), Standing::Carried)
+}
+
+// Whether the step's prover is handed nothing.
+fn sends_nothing<S: Suite>(step: &Step<S>) -> bool
+    ensures { let rules = ⟦<S as Meaning>⟧.rules S.Field.DIMENSION in
+        IsTrue result ↔ (play_of rules step.now).IsHanded Nothing }
+{
+    !matches!(
+        step,
+        Step::Salt { .. }
+            | Step::Bytes { .. }
+            | Step::Hint { .. }
+            | Step::BytesBounded { .. }
+            | Step::HintBounded { .. }
+            | Step::Scalar { .. }
+            | Step::Scalars { .. }
+            | Step::ScalarsBounded { .. }
+            | Step::Extension { .. }
+    )
 }
 
 // Whether the step sends a value of this one's type and, if it says how long it is, of that length.

@@ -14,73 +14,7 @@ use Rattle.p3_field.specs.BabyBearResidues.{BabyBear}
 use Rattle.uses.specs.Protocol.{IsAhead, IsDivisor, IsPast, IsRun, after_line, bytes_of, element_step, steps_of_line}
 use Rattle.uses.specs.declared.protocol.Claim.{Claim}
 
--- ---- one step
-
--- A step that a verifier reads, where it is next, with its bytes, and would be played: it is, or memory is refused.
-module _ {S Symbol A : Type 0} (m : Meaning S Symbol A) (r : Reading S Symbol A) (x : A) (completes : Completes m r x)
-    (memory : OnlyMemoryRefusesToRead m r x) (transcript after : Transcript S) (plays : PlaysStep m transcript x after)
-    (rest : List ℕ)
-    (before : Driving S) (at : before ≡ record { transcript = transcript; bytes = m.wire ++ rest }) where
-  pub reads : (y : A) (end : Driving S) → Receives r before y end →
-      (y ≡ x) × (end ≡ record { transcript = after; bytes = rest })
-  reads y end receives = completes.receives transcript after rest before end y plays at receives
-
-  pub reads-or_memory : (e : TranscriptError) (end : Driving S) → RefusesToRead r before e end → e ≡ OutOfMemory
-  reads-or_memory e end refuses = memory transcript after rest before end e plays at refuses
-
--- the same of one that leaves the bytes as they are
-module _ {S Symbol A : Type 0} (m : Meaning S Symbol A) (x : A) (memory : OnlyMemoryRefuses m)
-    (transcript after : Transcript S)
-    (plays : PlaysStep m transcript x after) (rest : List ℕ) (before : Driving S)
-    (at : before ≡ record { transcript = transcript; bytes = rest }) where
-  start : before.transcript ≡ transcript
-  start = ap (λ (v : Driving S). v.transcript) at
-
-  pub plays-on : (y : A) (end : Driving S) → PlaysStep m before.transcript y end.transcript → end.bytes ≡ before.bytes →
-      (y ≡ x) × (end ≡ record { transcript = after; bytes = rest })
-  plays-on y end second keeps =
-      let alike = (step-completes m).plays transcript after before.transcript end.transcript x y plays start second in
-      let then = alike.1 in
-      let left : end.bytes ≡ rest = keeps ∙ ap (λ (v : Driving S). v.bytes) at in
-      (alike.0, λ i. record { transcript = then i; bytes = left i })
-
-  pub plays-or_memory : (e : TranscriptError) (end : Transcript S) → RefusesStep m before.transcript e end →
-      e ≡ OutOfMemory
-  plays-or_memory e end refuses = memory transcript after before.transcript end x e plays start refuses
-
--- ---- a draw of one value that a rule may reject
-
-module _ {S T : Type 0} (d : Sampling S T) (rule : Rule T) (limit : ℕ) (s : S) (x : T) where
-  -- the first value that the rule takes is all that is kept of one
-  kept-one : (taken d rule limit [] s).gives ≡ Some x → (keeps d rule limit 1 [] s).gives ≡ Some (x ∷ [])
-  unfolding keeps
-  kept-one is =
-      ap (λ g. (go_on (λ y t. keeps d rule limit 0 (y ∷ []) t) g (taken d rule limit [] s).after).gives) is
-
-  pub draws-one : {Symbol : Type 0} (step : Step) (transcript : Transcript S) → transcript.challenger ≡ s →
-      IsNext transcript.playing step →
-      (taken d rule limit [] s).gives ≡ Some x →
-      PlaysStep {Symbol = Symbol} (drawn_rejecting step d rule limit 1) transcript (x ∷ [])
-      (record {
-        challenger = (keeps d rule limit 1 [] transcript.challenger).after;
-        playing = step_on
-            transcript.playing;
-      })
-  draws-one step transcript at is_next is =
-      record {
-        is_next = is_next;
-        fits = tt;
-        gives = ap (λ u. (keeps d rule limit 1 [] u).gives) at ∙ kept-one is;
-        challenger = refl;
-        playing = refl;
-      }
-
 -- ---- the protocol
-
--- a step is next in a pattern
-next-at : (p : Playing) (steps : List Step) (k : ℕ) (s : Step) → p.pattern.steps ≡ steps → p.position ≡ k →
-    p.finished ≡ false → slice_get steps k ≡ Some s → IsNext p s
-next-at p steps k s is position going at = (going, (λ i. slice_get (is i) (position i)) ∙ at)
 
 module _ {S Symbol : Type 0} (o : Observation S Symbol BabyBear) (places divisors : Sampling S BabyBear)
     (e : Encoding BabyBear) (digest : List ℕ) (v : Driving S) (claim : Claim) (rest : List ℕ)
@@ -224,22 +158,6 @@ once-ok (Err e) p then = tt
 -- a value that is given is one
 pub one-given : {A : Type 0} (given : Option A) (x y : A) → given ≡ Some x → given ≡ Some y → x ≡ y
 one-given {A = A} given x y is other = let both : ◌≡◌ {A = Option A} (Some x) (Some y) = sym is ∙ other in cc
-
--- a hint of so many bytes
-module _ {S Symbol : Type 0} (label bytes : List ℕ) (n : ℕ) (wide : length bytes ≡ n) where
-  pub completing-of : Completes {S = S} {Symbol = Symbol} (hinted label bytes)
-      (hint_received label (length bytes)) bytes →
-      Completes {S = S} {Symbol = Symbol} (hinted label bytes) (hint_received label n) bytes
-  completing-of completes =
-      subst (λ k. Completes {S = S} {Symbol = Symbol} (hinted label bytes) (hint_received label k) bytes) wide completes
-
-  pub memory-of : OnlyMemoryRefusesToRead {S = S} {Symbol = Symbol} (hinted label bytes)
-      (hint_received label (length bytes)) bytes →
-      OnlyMemoryRefusesToRead {S = S} {Symbol = Symbol} (hinted label bytes) (hint_received label n) bytes
-  memory-of memory =
-      subst
-      (λ k. OnlyMemoryRefusesToRead {S = S} {Symbol = Symbol} (hinted label bytes) (hint_received label k) bytes) wide
-      memory
 
 -- a claim is its five numbers
 pub same-claim : (a b : Claim) → a.slope ≡ b.slope → a.offset ≡ b.offset → a.place ≡ b.place → a.divisor ≡ b.divisor →

@@ -16,7 +16,8 @@ use Rattle.p3_challenger.specs.ObservationLaws.{all-fed, calls-leave, in_slice-i
 use Rattle.p3_challenger.specs.{ObservationLaws.observed_as-is_observation, Reading.{IsPrefixCode, OneBegins}}
 use Rattle.p3_challenger.specs.{Alphabet.{RefusesBytes, LeavesItems}, ChallengerError.ChallengerError}
 use Rattle.p3_challenger.specs.ChallengerError.TheVariants.{OutOfMemory, DrawLimit, NoWitness, TooLong}
-use Rattle.uses.{specs.BoundValues.{of_three, RefusesInTurn}, proofs.Either.{either, either-is_observation}}
+use Rattle.p3_challenger.specs.EitherLaws.{either, either-is_observation}
+use Rattle.uses.specs.BoundValues.{of_three, RefusesInTurn}
 
 -- a byte string in an alphabet, whose items are observed as one slice or one by one
 module _ {S Symbol I : Type 0} (fed : S → List Symbol → S) (fed_nothing : (s : S) → fed s [] ≡ s)

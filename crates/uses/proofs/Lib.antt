@@ -1,16 +1,12 @@
 pub mod Accepting
-pub mod Begun
 pub mod BoundValues
 pub mod CommitPhase
 pub mod DemoLemmas
-pub mod Either
 pub mod MerkleOpening
 pub mod OwnHasher
 pub mod Powers
-pub mod ReadBytes
 pub mod ReadSums
 pub mod RecordSums
-pub mod Rejecting
 pub mod Runs
 pub mod SentAndDrawn
 pub mod ThreeCalls

@@ -7,7 +7,7 @@ use Rattle.p3_challenger.specs.Reads.{then_read, unreadable, Read, ended_early, 
 use Rattle.p3_challenger.specs.{Reads.{read_count, read_counted_bytes}, Sampling.Sampling}
 use Rattle.p3_field.specs.BabyBearResidues.{BabyBear}
 use Rattle.uses.specs.MerkleOpening.{AreNodes, IsClimb, IsDrawnPlace, IsOpened, above, climbed, leaf_node_of}
-use Rattle.uses.proofs.ReadBytes.{one_of, not_read, bytes-read}
+use Rattle.p3_challenger.specs.ReadsLaws.{one_of, not_read, bytes-read}
 
 -- ---- what was read
 

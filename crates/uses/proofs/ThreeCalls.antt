@@ -5,7 +5,8 @@ use Rattle.p3_challenger.specs.{Sponge.IsFed, ObservationLaws.{all-fed, calls-le
 use Rattle.p3_challenger.specs.Observation.{Observation, IsObservation, LeavesFed, LeavesInCalls, RefusesObserve}
 use Rattle.p3_challenger.specs.{Sampling.{Sampling, IsSampling, RefusesDraw}, Dependence.DrawsAfter}
 use Rattle.p3_challenger.specs.ChallengerError.TheVariants.{OutOfMemory, DrawLimit, NoWitness, TooLong}
-use Rattle.uses.{specs.ThreeCalls.RefusesThreeCalls, proofs.Either.{either, either-is_observation}}
+use Rattle.p3_challenger.specs.EitherLaws.{either, either-is_observation}
+use Rattle.uses.specs.ThreeCalls.{RefusesThreeCalls}
 
 module _ {S Symbol A B X : Type 0} (fed : S → List Symbol → S) (fed_nothing : (s : S) → fed s [] ≡ s)
     (fed_more : (s : S) (a b : List Symbol) → fed (fed s a) b ≡ fed s (a ++ b)) (next : S → S)

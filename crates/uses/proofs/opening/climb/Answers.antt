@@ -1,6 +1,7 @@
 use Rattle.std.proofs.Common.{arith, refl, ◌∙◌}
 use Rattle.p3_challenger.specs.Drivers.{verifying_of}
-use Rattle.uses.proofs.{ReadBytes.bytes-read, MerkleOpening.{climbed-none, climbed-more, climbed-end}}
+use Rattle.p3_challenger.specs.ReadsLaws.{bytes-read}
+use Rattle.uses.proofs.MerkleOpening.{climbed-none, climbed-more, climbed-end}
 use Rattle.p3_symmetric.specs.contracts.sha256.Sha256HasherDigestHasher.TheImpl as digests
 use Rattle.uses.proofs.opening.climb.Goals as goal
 

@@ -1,6 +1,7 @@
 use Rattle.std.proofs.Common.{sym, ap, ◌∙◌}
 use Rattle.p3_challenger.specs.{HashState.observed, Observation.observed_all}
-use Rattle.uses.proofs.{ReadBytes.bytes-read, MerkleOpening.{leaf-read, counted-leaf, opened-by}}
+use Rattle.p3_challenger.specs.ReadsLaws.{bytes-read}
+use Rattle.uses.proofs.MerkleOpening.{leaf-read, counted-leaf, opened-by}
 use Rattle.p3_symmetric.specs.contracts.sha256.Sha256HasherDigestHasher.TheImpl as digests
 use Rattle.uses.proofs.opening.receive.Goals as goal
 

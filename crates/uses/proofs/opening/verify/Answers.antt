@@ -1,7 +1,8 @@
 use Rattle.std.proofs.Common.{rules, IsTrue, ap, sym}
 use Rattle.p3_challenger.specs.{HashState.observed, Observation.observed_all, SeparatorSeed.seed_of_separator}
 use Rattle.p3_challenger.specs.Drivers.{verifying_of}
-use Rattle.uses.proofs.{Begun.begun-as, MerkleOpening.opened-as}
+use Rattle.p3_challenger.specs.BegunLaws.{begun-as}
+use Rattle.uses.proofs.MerkleOpening.{opened-as}
 use Rattle.p3_symmetric.specs.contracts.sha256.Sha256HasherDigestHasher.TheImpl as digests
 use Rattle.uses.proofs.opening.verify.Goals as goal
 

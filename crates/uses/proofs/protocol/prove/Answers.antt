@@ -1,6 +1,7 @@
 use Rattle.std.proofs.Common.{ap}
 use Rattle.p3_challenger.specs.{Drivers.proving_of, SeparatorSeed.seed_of_separator}
-use Rattle.uses.proofs.{Begun.begun-as, Runs.{once-both, sent-as, sent-alone}}
+use Rattle.p3_challenger.specs.BegunLaws.{begun-as}
+use Rattle.uses.proofs.Runs.{once-both, sent-as, sent-alone}
 use Rattle.p3_symmetric.specs.contracts.sha256.Sha256HasherDigestHasher.TheImpl as digests
 use Rattle.uses.proofs.protocol.prove.Goals as goal
 

@@ -3,9 +3,10 @@ use Rattle.std.proofs.lemmas.Result.{err_from_is_err_and}
 use Rattle.p3_challenger.specs.{Bound.bound_value, Encoding.{Encoding, IsEncoding}, Scalar.encoding}
 use Rattle.p3_challenger.specs.{ScalarLaws.is_encoding, Transcripts.step_on, Drivers.verifying_of}
 use Rattle.p3_field.specs.{BabyBearResidues.{residues, BabyBear}, SmallPrimeLaws.laws}
-use Rattle.uses.proofs.{Runs.{counted, read}, ReadBytes.{bytes-left, bytes-read, value-left, value-read, encoded-whole}}
-use Rattle.uses.proofs.Accepting.{begins, divisor-drawn, divisor-next, draws-place, ends-past, completing-of, memory-of}
-use Rattle.uses.proofs.Accepting.{plays-on, plays-or_memory, reads, reads-or_memory, same-claim, sends-offset}
+use Rattle.p3_challenger.specs.AheadLaws.{completing-of, memory-of, plays-on, plays-or_memory, reads, reads-or_memory}
+use Rattle.p3_challenger.specs.ReadsLaws.{bytes-left, bytes-read, value-left, value-read, encoded-whole}
+use Rattle.uses.proofs.Runs.{counted, read}
+use Rattle.uses.proofs.Accepting.{begins, divisor-drawn, divisor-next, draws-place, ends-past, same-claim, sends-offset}
 use Rattle.uses.proofs.Accepting.{sends-quotient, sends-slope}
 use Rattle.uses.proofs.protocol.receive.Goals as goal
 

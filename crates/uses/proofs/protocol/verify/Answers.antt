@@ -1,7 +1,8 @@
 use Rattle.std.proofs.{Common.{arith, ◌∙◌, ap, refl, subst, sym}, lemmas.Result.err_from_is_err_and}
 use Rattle.p3_challenger.specs.{Reading.AreBytes, Drivers.verifying_of, SeparatorSeed.{pattern_of, seed_of_separator}}
 use Rattle.p3_field.specs.{BabyBearResidues.residues, Residues.sum_of, SmallPrimeLaws.compared-by-numbers}
-use Rattle.uses.{specs.Protocol.IsAnswer, proofs.{Accepting.{ends-reading, ahead-of}, Begun.begun-as}}
+use Rattle.p3_challenger.specs.BegunLaws.{begun-as}
+use Rattle.uses.{specs.Protocol.IsAnswer, proofs.Accepting.{ends-reading, ahead-of}}
 use Rattle.uses.proofs.Runs.{received-alone, answered, run-as}
 use Rattle.p3_symmetric.specs.contracts.sha256.Sha256HasherDigestHasher.TheImpl as digests
 use Rattle.uses.proofs.protocol.verify.Goals as goal

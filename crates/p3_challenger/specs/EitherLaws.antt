@@ -1,6 +1,6 @@
--- Values of two types, observed in a row: observations of either are one observation.
+-- Laws of values of two types that are observed in a row: observations of either are one observation.
 use Rattle.std.proofs.Common.{◌≡◌, ◌⊎◌, inl, inr, List, ◌∷◌, ◌++◌}
-use Rattle.p3_challenger.specs.{Sponge.IsFed, Observation.{Observation, IsObservation, LeavesFed, LeavesAfter}}
+use Rattle.p3_challenger_core.specs.{Sponge.IsFed, Observation.{Observation, IsObservation, LeavesFed, LeavesAfter}}
 
 module _ {S Symbol A B : Type 0} (o : Observation S Symbol A) (p : Observation S Symbol B) where
   abbrev symbols_of : A ⊎ B → List Symbol

@@ -1,7 +1,10 @@
--- A draw of one value that a rule may reject.
+-- Laws of a draw of one value that a rule may reject.
 use Rattle.std.proofs.Common.{◌≡◌, ℕ, zero, suc, Bool, true, false, List, [], ◌∷◌, ◌++◌, Option, Some, None, refl, sym, ◌∙◌}
 use Rattle.std.proofs.Common.{if◌then◌else◌, ap, map, length, get_or}
-use Rattle.p3_challenger.specs.{Sampling.Sampling, Rejecting.{Rule, Outcome, given, go_on, taken, keeps}}
+use Rattle.p3_challenger_core.specs.Sampling.{Sampling}
+use Rattle.p3_fs_core.specs.Steps.{Step}
+use Rattle.p3_driver_core.specs.Rejecting.{Rule, Outcome, given, go_on, taken, keeps, drawn_rejecting}
+use Rattle.p3_driver_core.specs.Transcripts.{IsNext, PlaysStep, Transcript, step_on}
 
 module _ {S T : Type 0} (d : Sampling S T) (rule : Rule T) where
   chosen-passes : (kept : List T) (x y : T) (takes : Bool) (t : S) (others : Outcome S T) → rule y kept ≡ takes →
@@ -54,10 +57,35 @@ one-value value (b ∷ c ∷ bounds) x is = cc
 
 -- what is so of the value of a list that was drawn so
 module _ {S T A : Type 0} (d : Sampling S T) (rule : Rule T) (value : A → T) where
-  pub one-of : (limit : ℕ) (s : S) (bounds : List A) → (keeps d rule limit 1 [] s).gives ≡ Some (map value bounds) →
+  pub one-drawn : (limit : ℕ) (s : S) (bounds : List A) → (keeps d rule limit 1 [] s).gives ≡ Some (map value bounds) →
       (length bounds ≡ 1) × ((other : A) → ((taken d rule limit [] s).gives ≡ Some (value (get_or bounds 0 other)))
       × (rule (value (get_or bounds 0 other)) [] ≡ true))
-  one-of limit s bounds is =
+  one-drawn limit s bounds is =
       let one = one-passes d rule limit s (map value bounds) is in
       let same = one-value value bounds one.0 one.3 in
       (same.0, λ other. (one.1 ∙ ap Some (sym (same.1 other)), ap (λ x. rule x []) (same.1 other) ∙ one.2))
+
+module _ {S T : Type 0} (d : Sampling S T) (rule : Rule T) (limit : ℕ) (s : S) (x : T) where
+  -- the first value that the rule takes is all that is kept of one
+  kept-one : (taken d rule limit [] s).gives ≡ Some x → (keeps d rule limit 1 [] s).gives ≡ Some (x ∷ [])
+  unfolding keeps
+  kept-one is =
+      ap (λ g. (go_on (λ y t. keeps d rule limit 0 (y ∷ []) t) g (taken d rule limit [] s).after).gives) is
+
+  pub draws-one : {Symbol : Type 0} (step : Step) (transcript : Transcript S) → transcript.challenger ≡ s →
+      IsNext transcript.playing step →
+      (taken d rule limit [] s).gives ≡ Some x →
+      PlaysStep {Symbol = Symbol} (drawn_rejecting step d rule limit 1) transcript (x ∷ [])
+      (record {
+        challenger = (keeps d rule limit 1 [] transcript.challenger).after;
+        playing = step_on
+            transcript.playing;
+      })
+  draws-one step transcript at is_next is =
+      record {
+        is_next = is_next;
+        fits = tt;
+        gives = ap (λ u. (keeps d rule limit 1 [] u).gives) at ∙ kept-one is;
+        challenger = refl;
+        playing = refl;
+      }

@@ -1,7 +1,8 @@
--- A hash challenger that begins a transcript.
+-- Laws of a hash challenger that begins a transcript.
 use Rattle.std.proofs.Common.{◌≡◌, List, [], ◌∷◌, ◌++◌, ap, sym, ◌∙◌}
-use Rattle.p3_challenger.specs.{HashCalls.with_pending, HashState.{HashState, fed, observed}, Observation.observed_all}
-use Rattle.p3_challenger.specs.HashStateLaws.{fed-append, observed_all-fed}
+use Rattle.p3_challenger_core.specs.Observation.{observed_all}
+use Rattle.p3_hash_challenger.specs.{HashCalls.with_pending, HashState.{HashState, fed, observed}}
+use Rattle.p3_hash_challenger.specs.HashStateLaws.{fed-append, observed_all-fed}
 
 -- a challenger with nothing pending has just these values pending, once it observed them
 pub begun : {T H : Type 0} (s : HashState T H) (values : List T) → s.sponge ≡ with_pending [] →
