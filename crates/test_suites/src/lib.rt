@@ -13,6 +13,9 @@ pub use byte_hasher::ByteHasher;
 pub use duplex::DuplexSuite;
 pub use hash::HashSuite;
 pub use multi_field::MultiFieldSuite;
-pub use poseidon2::{BabyBearPoseidon2Suite, GoldilocksPoseidon2Suite, MultiFieldPoseidon2Suite};
+pub use poseidon2::{
+    BabyBearPoseidon2Suite, GoldilocksPoseidon2Suite, KoalaBearPoseidon2Suite,
+    MultiFieldPoseidon2Suite,
+};
 pub use serializing32::Serializing32Suite;
 pub use serializing64::Serializing64Suite;
