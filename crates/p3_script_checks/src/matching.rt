@@ -1,10 +1,10 @@
 //! Whether values are right to send at a script's steps, and how many witnesses the verifier's caller carries.
 ghost use Rattle.std.specs.Prelude.{◌≡◌, ◌↔◌, IsTrue};
 ghost use Rattle.p3_runs.specs.{Provings.AreHanded, Runs.carried_count};
-ghost use Rattle.p3_runs.specs.Values.Nothing;
+ghost use Rattle.p3_runs.specs.Values.{Nothing};
 ghost use Rattle.p3_script.specs.Scripts.{play_of, value_sent, values_sent};
 ghost use Rattle.p3_script_checks.specs.Places.{is_handed_at, is_carried_at};
-ghost use Rattle.p3_script_prover.specs.ProverAnswers.value_given;
+ghost use Rattle.p3_script_prover.specs.ProverAnswers.{value_given};
 
 use p3_challenger_core::Sponge;
 use p3_script::{Meaning, Sent, Standing, Step, Suite, standing_of};
@@ -34,7 +34,7 @@ pub fn sent_matches<S: Suite>(steps: &[Step<S>], sent: &[Sent<S>]) -> bool
 /// `prover_step` requires this of its value. Not in the Rust crate.
 pub fn step_matches<S: Suite>(step: &Step<S>, sent: Option<&Sent<S>>) -> bool
     ensures { let rules = ⟦<S as Meaning>⟧.rules S.Field.DIMENSION in
-        IsTrue result ↔ (play_of rules step.now).IsHanded (value_given sent) }
+        IsTrue result ↔ (play_of rules step.now).IsHanded (value_given sent.entry) }
 {
     match sent {
         Some(value) => is_handed(step, value),

@@ -2,8 +2,8 @@ use Rattle.std.proofs.Common.{refl}
 use Rattle.p3_script_answers.proofs.Turning.{not-both, stands-sent}
 use Rattle.p3_script_answers.proofs.asking.ask.Goals as goal
 
-pub returns-then-not-is_handed-clause-asked : goal.returns-then-not-is_handed-clause-asked
-returns-then-not-is_handed-clause-asked g c =
+pub returns-then-not-step_matches-clause-asked : goal.returns-then-not-step_matches-clause-asked
+returns-then-not-step_matches-clause-asked g c =
     record {
       comes = (
         refl,
@@ -11,7 +11,7 @@ returns-then-not-is_handed-clause-asked g c =
         record {
           value = c.in-Ok.value;
           answered = rw c.in-Ok.is at c.answers.ensures;
-          unfit = λ h. not-both c.is_handed.result (c.is_handed.ensures.1 h) c.if-not-is_handed.true;
+          unfit = λ h. not-both c.step_matches.result (c.step_matches.ensures.1 h) c.if-not-step_matches.true;
         },
       );
     }
