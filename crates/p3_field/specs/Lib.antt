@@ -7,6 +7,12 @@ pub use Rattle.p3_field_core.specs.Coefficients
 pub use Rattle.p3_field_core.specs.CoeffsCoefficients
 pub use Rattle.p3_field_core.specs.CoefficientLaws
 pub use Rattle.p3_field_core.specs.Equality
+pub use Rattle.p3_extension.specs.BinomialExtensions
+pub use Rattle.p3_extension.specs.BinomialIdentities
+pub use Rattle.p3_extension.specs.ExtensionCoefficientLaws
+pub use Rattle.p3_extension.specs.ExtensionCoefficients
+pub use Rattle.p3_extension.specs.ExtensionLaws
+pub use Rattle.p3_extension.specs.ExtensionRings
 pub use Rattle.p3_field_core.specs.UniformBounds
 pub use Rattle.p3_small_primes.specs.PrimeIdentities
 pub use Rattle.p3_small_primes.specs.SmallPrimes
@@ -23,3 +29,4 @@ pub use Rattle.p3_lanes.specs.declared.small_prime_lanes.SmallPrimeLanes
 pub use Rattle.p3_small_primes.specs.declared.small_prime.SmallPrime
 pub use Rattle.p3_goldilocks.specs.declared.goldilocks.Goldilocks
 pub use Rattle.p3_field_core.specs.declared.coeffs.Coeffs
+pub use Rattle.p3_extension.specs.declared.binomial_extension_field.BinomialExtensionField

@@ -2,9 +2,10 @@
 //! and in lanes.
 //!
 //! This crate has no code of its own. It re-exports [`p3_field_core`], [`p3_small_primes`],
-//! [`p3_goldilocks`], [`p3_field_bridge`], and the fields of [`p3_lanes`].
+//! [`p3_goldilocks`], [`p3_extension`], [`p3_field_bridge`], and the fields of [`p3_lanes`].
 #![tactic(auto)]
 
+pub use p3_extension::{BinomialExtensionField, BinomialModulus, extensions_are_rings};
 pub use p3_field_bridge::{
     FieldBridge, digits_are_any, digits_tell_elements, packing_is_injective,
 };

@@ -4,6 +4,8 @@
 #[cfg(test)]
 mod bridges;
 #[cfg(test)]
+mod extensions;
+#[cfg(test)]
 mod lanes;
 #[cfg(test)]
 mod tests;

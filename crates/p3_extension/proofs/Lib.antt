@@ -1,0 +1,3 @@
+pub mod ExtensionProducts
+pub mod Readings
+pub mod WorkedRows
