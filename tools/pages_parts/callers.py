@@ -50,10 +50,11 @@ class Callers:
         return [it for it in self.tests if library in self.imports[it]]
 
     def testing(self, library, item):
-        """Returns the test crates that call a function of a library, or a method of its name where they name items of the library."""
+        """Returns the test crates that call a function of a library, or name items of it and have a call of a method of its name."""
         names = (full_name(item), f"{os.path.basename(item.path)[:-3]}::{item.name}")
         is_called = lambda crate: any(it in names for example in self.found[crate] for of, it in example.called if of == library)
-        return [it for it in self.tests if is_called(it) or item.owner and library in self.imports[it] and self.has_method(it, item.name)]
+        is_method = lambda crate: item.owner and library in self.imports[crate] and self.has_method(crate, item.name)
+        return [it for it in self.tests if is_called(it) or is_method(it)]
 
     def has_method(self, crate, name):
         """Returns whether the code of a test crate has a call of a method of this name."""
@@ -62,7 +63,8 @@ class Callers:
     def example(self, library):
         """Returns the shortest function of the examples, or else of the tests, that calls one of a library; or None."""
         for crates in (*EXAMPLES, self.tests):
-            found = [it for crate in crates if crate != library for it in self.found[crate] if any(of == library for of, _ in it.called)]
+            found = [it for crate in crates if crate != library for it in self.found[crate]]
+            found = [it for it in found if any(of == library for of, _ in it.called)]
             if found:
                 return min(found, key=lambda it: (it.is_asked, len(it.lines), it.path, it.row))
         return None

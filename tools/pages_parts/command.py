@@ -24,7 +24,7 @@ Writes what pages say that the repository says already, between two comments of 
   crates        the crates, what each does, and what it stands on: crates.txt and the first lines of lib.rt and main.rt
   layers        the crates in lines, each of those that stand on the lines before, and the longest chain
   contracts     how many types, functions, laws, clauses and definitions each library has
-  files         the files of code and of definitions of each crate without a page, by their first lines and the names that they show
+  files         the files of code and definitions of each crate without a page, by their first lines and the names that they show
   lemmas        the files of proofs/ of these crates, by their first lines
   definitions   the definitions of these crates, by the comment above each
   data          the files of data/, by their first lines
@@ -34,9 +34,9 @@ And it writes a page for each library, which no one else does: crates/NAME/READM
 crates.txt has not under tests. The page has what lib.rt says; the crates below and above; the public functions, with what their
 doc comments say and their clauses; the definitions; what is proved, what only tested; an example; and the other files.
 
-Without an option it changes nothing and asks: that each region and each of these pages is what it would write; that each number of
-kinds of steps, wrong bodies, and calls and scripts of the Rust crate, is what is there; and that each name in backticks in the text by hand
-of README, SECURITY, DECISIONS, DEFINITIONS, MAP, PROMISES, TEALMUZE, VECTORS and WRONG_BODIES is that of some code, clause or
+Without an option it changes nothing and asks: that each region and each of these pages is what it would write; that each number
+of kinds of steps, wrong bodies, and calls and scripts of the Rust crate, is what is there; and that each name in backticks in the
+text by hand of README, SECURITY, DECISIONS, DEFINITIONS, MAP, PROMISES, TEALMUZE, VECTORS and WRONG_BODIES is that of some code, clause or
 file.
 
 It prints a row for each that is not so. The last line is 'N passed, M failed'. The exit status is 1 where anything failed."""
@@ -93,7 +93,8 @@ def check(texts):
     names, whole = Names(texts, tables.every), Readmes(texts, tables.every).pages()
     found = [(page, of_library(texts, page, made)) for page, made in whole.items()]
     for page in pages_of(texts, whole):
-        found += [(page, it) for it in (of_regions(texts.of(page), tables.writers()), of_numbers(texts, page, counts), of_names(page, names))]
+        parts = (of_regions(texts.of(page), tables.writers()), of_numbers(texts, page, counts), of_names(page, names))
+        found += [(page, it) for it in parts]
     for page, (seen, wrong) in found:
         passed += seen - len(wrong)
         rows += [f"FAILED    {page}: {it}" for it in wrong]

@@ -5,9 +5,9 @@ import re
 
 from .texts import comment_above, plain, sentence
 
-# A function: its file and row, what it is a method of, its name, what its comment says, its conditions, the labels of these and of
-# its other clauses, how many it has of these, what comments say of single clauses, what its comment says of conditions and errors,
-# and for an implementation of a trait which one. A type has a name and a comment, and so has a ghost member of a trait.
+# A function: its file and row, what it is a method of, its name, what its comment says, its conditions, the labels of these and
+# of its other clauses, how many it has of these, what comments say of single clauses, what its comment says of conditions and
+# errors, and the trait that asks for it, if one does. A type has a name and a comment, and so has a ghost member of a trait.
 FIELDS = "path row owner name says needs conditions labels clauses notes remarks trait is_law is_public is_type is_ghost"
 Function = collections.namedtuple("Function", FIELDS, defaults=[(), (), (), 0, {}, (), "", False, True, False, False])
 BLOCK = re.compile(r"(?:pub )?(?:unsafe )?(?P<what>impl|trait)\b")
@@ -75,7 +75,7 @@ def remarks_of(doc):
     """Returns what a doc comment says of conditions and errors: each paragraph from the sentence on that begins with them."""
     paragraphs = [plain(" ".join(it.split())) for it in "\n".join(doc).split("\n\n")]
     found = ((it, REMARK.search(it)) for it in paragraphs)
-    return [it[begin.start() :].rstrip(".") for it, begin in found if begin]
+    return [re.sub(r"^Else the", "The", it[begin.start() :].rstrip(".")) for it, begin in found if begin]
 
 
 def laws(texts, path):

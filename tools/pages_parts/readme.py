@@ -1,4 +1,4 @@
-"""The page of each library, `crates/NAME/README.md`: what it is, what contracts see of it, what is proved, and an example."""
+"""The page of each library, `crates/NAME/README.md`: what it is, what contracts see of it, what is proved, an example."""
 import os
 import re
 
@@ -16,10 +16,9 @@ PRINTS = re.compile(r"^impl(?:<[^{]*?>)? fmt::(?P<how>Debug|Display)\s+for (?P<t
 PRINTED = re.compile(r"^#\[derive\([^)]*\bError\b[^)]*\)\]\n(?:#\[.*\n)*pub (?:enum|struct) (?P<type>\w+)", re.M)
 MEMBER = re.compile(r"^ +ghost (?!use\b)", re.M)
 HOW = {"Debug": "{:?}", "Display": "{}"}
-KEY = """After *needs* stand the conditions of a call; the other names are the labels of its clauses, which are proved. A *law* does
-nothing, and a caller cites its clauses; a *ghost* member of a trait is what an implementor owes, and contracts speak of. A row
-with … adds to the one above it: what one clause says, or which conditions and errors there are. The exact statements stand in
-the files."""
+KEY = """*needs*: the conditions of a call. After them stand the labels of its clauses, which are proved. *law*: a function
+that does nothing, and whose clauses a caller cites. *ghost*: a member of a trait of which contracts speak, and which an implementor owes.
+A row with … adds to the one above it: what one clause says, or conditions and errors. The exact statements stand in the files."""
 
 
 class Readmes:
@@ -45,16 +44,18 @@ class Readmes:
         return f"{BEGIN.format(f'library {crate.name}')}\n# `{crate.name}`\n\n{body}\n\n{END}\n"
 
     def place(self, crate, page):
-        """Returns what a library says of itself, and what stands below and above it."""
-        below = [self.linked(it, page) for it in crates.nearest(crate, self.reach)] + [f"the kit's `{it}`" for it in crate.kit]
-        above = [self.linked(it.name, page) for it in self.libraries if crate.name in crates.nearest(it, self.reach)]
-        through = [self.linked(it, page) for it in self.facades(crate.name)]
-        said = [f"Its group in `crates.txt`: *{crate.group}*. It stands on {listed(below) or 'no other crate'}."]
-        said += [f"{listed(above)} {'stands' if len(above) == 1 else 'stand'} on it."] if above else []
-        said += [f"Users name its items through {listed(through)}."] if through else []
-        said += [f"What its clauses promise, in plain words: [PROMISES](../../{PROMISES}#{self.section(page)})."]
-        said += ["[CALLING](CALLING.md) says how to call it."] if f"crates/{crate.name}/CALLING.md" in self.texts.files else []
-        return f"{self.doc(crate.name)}\n\n{' '.join(said)}"
+        """Returns what a library says of itself, and a list of what stands below and above it, and of where else to read."""
+        kit = [f"{coded(crate.kit)} of the kit"] if crate.kit else []
+        lists = {
+            "Its group in `crates.txt`": [f"*{crate.group}*"],
+            "Below it": [self.linked(it, page) for it in crates.nearest(crate, self.reach)] + kit,
+            "Above it": [self.linked(it.name, page) for it in self.libraries if crate.name in crates.nearest(it, self.reach)],
+            "Users name its items through": [self.linked(it, page) for it in self.facades(crate.name)],
+            "How to call it": ["[CALLING](CALLING.md)"] if f"crates/{crate.name}/CALLING.md" in self.texts.files else [],
+            "What its clauses promise, in plain words": [f"[PROMISES](../../{PROMISES}#{self.section(page)})"],
+        }
+        rows = "\n".join(f"- {name}: {', '.join(words)}" for name, words in lists.items() if words)
+        return f"{self.doc(crate.name)}\n\n{rows}"
 
     def doc(self, name):
         """Returns the doc comment of a library."""
@@ -72,7 +73,7 @@ class Readmes:
         return list(dict.fromkeys(it for it in found if it != name))
 
     def section(self, page):
-        """Returns the place of the section that says in plain words what a library promises: the first one with a link to its page."""
+        """Returns the place of the section of plain words on a library: the first one with a link to its page."""
         heading = WHOLE
         for line in self.texts.of(PROMISES).split("\n") if PROMISES in self.texts.files else ():
             heading = re.sub(r"[^\w\- ]", "", line[4:].lower()).replace(" ", "-") if line.startswith("### ") else heading
@@ -112,12 +113,11 @@ class Readmes:
         """Returns what is proved of a library, what only tested, and what neither."""
         functions = [it for it in self.callers.items[crate.name] if not it.is_type and not it.is_ghost]
         clauses, tests = sum(it.clauses for it in functions), self.callers.naming(crate.name)
-        said = [f"**Proved**: {counted(clauses, 'clause')} of public functions, and that each function, private ones too, [returns]"
-                f"(../../{PROMISES}#totality-and-named-refusals) on all inputs that meet its conditions." if functions
-                else "**Proved**: it has no public function of its own, and so no clause."]
+        returns = f"[returns](../../{PROMISES}#totality-and-named-refusals) on all inputs that meet its conditions"
+        said = [f"**Proved**: {counted(clauses, 'clause')} of public functions, and that each function, private ones too, {returns}."
+                if functions else "**Proved**: no clause, as it has no public function of its own."]
         said += [self.refused(crate.name)]
-        said += [f"**Also tested**: {coded(tests)} {'names' if len(tests) == 1 else 'name'} items of it." if tests
-                 else "**Tests**: none names an item of it."]
+        said += [f"**Tests and programs** that name items of it: {coded(tests) or 'none'}."]
         said += [self.unproved(crate.name, it) for it in functions if it.is_public and not it.clauses]
         said += [self.unprinted(crate.name)]
         return "## What is proved, and what not\n\n" + "\n".join(f"- {it}" for it in said if it)
@@ -132,7 +132,8 @@ class Readmes:
         """Returns how many wrong bodies of a library stand on record, or nothing where it has none."""
         path = f"crates/{name}/wrong-bodies/REFUSED.tsv"
         many = self.texts.of(path).count("\n") - 1 if path in self.texts.files else 0
-        return f"{counted(many, 'wrong body', 'wrong bodies')} on [record](wrong-bodies/REFUSED.tsv), which the proofs refused." if many else ""
+        said = "**[Wrong bodies](../../docs/WRONG_BODIES.md)** on [record](wrong-bodies/REFUSED.tsv), which the proofs refused"
+        return f"{said}: {many}." if many else ""
 
     def unprinted(self, name):
         """Returns of which types no clause says what is printed, or nothing."""
@@ -173,11 +174,6 @@ def page_of(name):
     return f"crates/{name}/README.md"
 
 
-def listed(words):
-    """Returns words as a sentence lists them."""
-    return ", ".join(words[:-1]) + (" and " if len(words) > 1 else "") + words[-1] if words else ""
-
-
-def counted(many, one, more=""):
+def counted(many, one):
     """Returns a number with what it counts."""
-    return f"{many:,} {one if many == 1 else more or f'{one}s'}"
+    return f"{many:,} {one}{'' if many == 1 else 's'}"

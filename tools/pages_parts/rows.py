@@ -40,7 +40,7 @@ def definitions_in(texts, path, page):
 
 
 def items_of(texts, path):
-    """Returns the types, functions and laws of a file that others see, in its order, and the methods with clauses of their own."""
+    """Returns the types, functions and laws of a file that others see, and the methods with clauses of their own."""
     functions = [it for it in contracts.functions(texts, path) if it.is_public or it.trait and it.clauses]
     return sorted([*functions, *contracts.types(texts, path), *contracts.laws(texts, path)], key=lambda it: it.row)
 

@@ -70,5 +70,6 @@ class Imports:
         return self.shown.get(f"{self.modules.get(owner, '')}::{name}")
 
     def method(self, name, members):
-        """Returns the library and the name of a method of a trait or a type that the file names, or None; the members of each are given."""
-        return next(((library, f"{of}::{name}") for library, of in self.items.values() if name in members.get((library, of), ())), None)
+        """Returns the library and the name of a method of what the file names, or None; the members of each are given."""
+        found = (it for it in self.items.values() if name in members.get(it, ()))
+        return next(((library, f"{of}::{name}") for library, of in found), None)
