@@ -50,7 +50,7 @@ class Callers:
         return [it for it in self.tests if library in self.imports[it]]
 
     def testing(self, library, item):
-        """Returns the test crates that call a function of a library, or name items of it and have a call of a method of its name."""
+        """Returns the test crates that call a function of a library, or name its items and call a method of its name."""
         names = (full_name(item), f"{os.path.basename(item.path)[:-3]}::{item.name}")
         is_called = lambda crate: any(it in names for example in self.found[crate] for of, it in example.called if of == library)
         is_method = lambda crate: item.owner and library in self.imports[crate] and self.has_method(crate, item.name)

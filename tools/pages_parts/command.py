@@ -36,8 +36,8 @@ doc comments say and their clauses; the definitions; what is proved, what only t
 
 Without an option it changes nothing and asks: that each region and each of these pages is what it would write; that each number
 of kinds of steps, wrong bodies, and calls and scripts of the Rust crate, is what is there; and that each name in backticks in the
-text by hand of README, SECURITY, DECISIONS, DEFINITIONS, MAP, PROMISES, TEALMUZE, VECTORS and WRONG_BODIES is that of some code, clause or
-file.
+text by hand of README, SECURITY, DECISIONS, DEFINITIONS, MAP, PROMISES, TEALMUZE, VECTORS and WRONG_BODIES is that of some code,
+clause or file.
 
 It prints a row for each that is not so. The last line is 'N passed, M failed'. The exit status is 1 where anything failed."""
 

@@ -7,9 +7,10 @@ from .texts import comment_above, plain, sentence
 
 # A function: its file and row, what it is a method of, its name, what its comment says, its conditions, the labels of these and
 # of its other clauses, how many it has of these, what comments say of single clauses, what its comment says of conditions and
-# errors, and the trait that asks for it, if one does. A type has a name and a comment, and so has a ghost member of a trait.
-FIELDS = "path row owner name says needs conditions labels clauses notes remarks trait is_law is_public is_type is_ghost"
-Function = collections.namedtuple("Function", FIELDS, defaults=[(), (), (), 0, {}, (), "", False, True, False, False])
+# errors, its counterpart in Plonky3, and the trait that asks for it, if one does. A type has a name and a comment, and so has a
+# ghost member of a trait.
+FIELDS = "path row owner name says needs conditions labels clauses notes remarks twin trait is_law is_public is_type is_ghost"
+Function = collections.namedtuple("Function", FIELDS, defaults=[(), (), (), 0, {}, (), (), "", False, True, False, False])
 BLOCK = re.compile(r"(?:pub )?(?:unsafe )?(?P<what>impl|trait)\b")
 FUNCTION = re.compile(r"(?P<indent> {0,4})(?P<shown>pub )?(?:final |const )*fn (?P<name>\w+)")
 TYPE = re.compile(r"pub (?:struct|enum|trait|type) (?P<name>\w+)")
@@ -19,6 +20,7 @@ REMARK = re.compile(
     r"(?:^|(?<=[.:] ))(?:The (?:one |only )?errors?\b|Else the error|Conditions?:|Beside what|A step is refused with)"
 )
 SHORT = 60
+TWIN = re.compile(r"Corresponds to (?:the Rust crate's|(?P<crate>`[\w-]+`)'s) (?P<name>`[^`]+`)")
 LAW = re.compile(r"\s*A law:[^.]*\.\s*")
 
 
@@ -38,7 +40,7 @@ def functions(texts, path):
             doc = doc_above(lines, at)
             what = (path, at + 1, owner if found["indent"] else "", found["name"], comment_above(lines, at, path))
             labels = (needs_in(contract), labels_in(contract, "requires"), labels_in(contract, "ensures"), clauses_in(contract))
-            said = (notes_of(contract, doc, path), remarks_of(doc), trait)
+            said = (notes_of(contract, doc, path), remarks_of(doc), twin_of(doc), trait)
             is_law = is_empty or any(it.startswith("A law") for it in doc)
             yield Function(*what, *labels, *said, is_law, bool(found["shown"] or is_trait and found["indent"]))
 
@@ -50,7 +52,7 @@ def types(texts, path):
         found = TYPE.match(line)
         if found:
             doc, says = doc_above(lines, at), comment_above(lines, at, path)
-            yield Function(path, at + 1, "", found["name"], says, remarks=remarks_of(doc), is_type=True)
+            yield Function(path, at + 1, "", found["name"], says, remarks=remarks_of(doc), twin=twin_of(doc), is_type=True)
 
 
 def doc_above(lines, at):
@@ -76,6 +78,12 @@ def remarks_of(doc):
     paragraphs = [plain(" ".join(it.split())) for it in "\n".join(doc).split("\n\n")]
     found = ((it, REMARK.search(it)) for it in paragraphs)
     return [re.sub(r"^Else the", "The", it[begin.start() :].rstrip(".")) for it, begin in found if begin]
+
+
+def twin_of(doc):
+    """Returns the name of the counterpart in Plonky3 that a doc comment tells, and its crate if it is another one, or nothing."""
+    found = TWIN.search(" ".join(doc))
+    return (found["name"], found["crate"] or "") if found else ()
 
 
 def laws(texts, path):

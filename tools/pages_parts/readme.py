@@ -17,8 +17,9 @@ PRINTED = re.compile(r"^#\[derive\([^)]*\bError\b[^)]*\)\]\n(?:#\[.*\n)*pub (?:e
 MEMBER = re.compile(r"^ +ghost (?!use\b)", re.M)
 HOW = {"Debug": "{:?}", "Display": "{}"}
 KEY = """*needs*: the conditions of a call. After them stand the labels of its clauses, which are proved. *law*: a function
-that does nothing, and whose clauses a caller cites. *ghost*: a member of a trait of which contracts speak, and which an implementor owes.
-A row with … adds to the one above it: what one clause says, or conditions and errors. The exact statements stand in the files."""
+that does nothing, and whose clauses a caller cites. *ghost*: a member of a trait of which contracts speak, and which an
+implementor owes. A row with … adds to the one above it: what one clause says, or conditions and errors. The exact statements
+stand in the files."""
 
 
 class Readmes:
@@ -51,6 +52,7 @@ class Readmes:
             "Below it": [self.linked(it, page) for it in crates.nearest(crate, self.reach)] + kit,
             "Above it": [self.linked(it.name, page) for it in self.libraries if crate.name in crates.nearest(it, self.reach)],
             "Users name its items through": [self.linked(it, page) for it in self.facades(crate.name)],
+            "Counterparts in Plonky3, with [differences](../../docs/DIFFERENCES.md)": self.twins(crate.name),
             "How to call it": ["[CALLING](CALLING.md)"] if f"crates/{crate.name}/CALLING.md" in self.texts.files else [],
             "What its clauses promise, in plain words": [f"[PROMISES](../../{PROMISES}#{self.section(page)})"],
         }
@@ -66,6 +68,13 @@ class Readmes:
     def linked(self, name, page):
         """Returns a link to the page of a crate, or to its folder where it has none."""
         return link(page_of(name) if name in self.names else f"crates/{name}", page, name)
+
+    def twins(self, name):
+        """Returns the counterparts in Plonky3 of what a library shows, by their crates."""
+        found = {}
+        for twin, crate in (it.twin for it in self.callers.items[name] if it.twin):
+            found.setdefault(crate, []).append(twin)
+        return [", ".join(dict.fromkeys(twins)) + (f" of {crate}" if crate else "") for crate, twins in found.items()]
 
     def facades(self, name):
         """Returns the libraries that show items of a library."""
