@@ -18,6 +18,7 @@ GHOST = re.compile(r" {4}ghost (?P<name>\w+): \{")
 CLAUSE = re.compile(r"\s+(?P<what>requires|ensures)\*? (?:(?P<label>\w+) )?\{(?: (?P<text>.*) \};?$)?")
 REMARK = re.compile(
     r"(?:^|(?<=[.:] ))(?:The (?:one |only )?errors?\b|Else the error|Conditions?:|Beside what|A step is refused with)"
+    r"|^The result is\b"
 )
 SHORT = 60
 TWIN = re.compile(r"Corresponds to (?:the Rust crate's|(?P<crate>`[\w-]+`)'s) (?P<name>`[^`]+`)")
@@ -64,10 +65,10 @@ def doc_above(lines, at):
 def notes_of(contract, doc, path):
     """Returns what is said of single clauses, by their labels: in a list of the doc comment, or in a comment above each."""
     found = re.findall(r"(?:^|\n)- `(\w+)`: (.*?)(?=\n- |\n\n|$)", "\n".join(doc), re.S)
-    notes = {label: sentence(" ".join(said.split())) for label, said in found}
+    notes = {label: plain(" ".join(said.split())).rstrip(".;") for label, said in found}
     for at, line in enumerate(contract):
         clause = CLAUSE.match(line)
-        said = sentence(comment_above(contract, at, path)) if at and clause else ""
+        said = plain(comment_above(contract, at, path)).rstrip(".") if at and clause else ""
         if said and clause["label"]:
             notes.setdefault(clause["label"], said)
     return notes

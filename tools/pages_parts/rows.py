@@ -51,7 +51,7 @@ def contracts_in(texts, path):
         said = contracts.told(it) or (f"As `{it.trait}` says, with clauses of its own" if it.trait else "")
         if said:
             yield f"`{full_name(it)}`", said, contract_of(it)
-            yield from ((f"… `{it.name}`", note, f"`{label}`") for label, note in it.notes.items())
+            yield from ((f"… `{it.name}`", note[:1].upper() + note[1:], f"`{label}`") for label, note in it.notes.items())
             yield from ((f"… `{it.name}`", remark, "") for remark in it.remarks)
 
 
