@@ -54,7 +54,7 @@ class Readmes:
             "Users name its items through": [self.linked(it, page) for it in self.facades(crate.name)],
             "Counterparts in Plonky3, with [differences](../../docs/DIFFERENCES.md)": self.twins(crate.name),
             "How to call it": ["[CALLING](CALLING.md)"] if f"crates/{crate.name}/CALLING.md" in self.texts.files else [],
-            "What its clauses promise, in plain words": [f"[PROMISES](../../{PROMISES}#{self.section(page)})"],
+            "What its clauses promise, in plain words": [f"[`{PROMISES}`](../../{PROMISES}#{self.section(page)})"],
         }
         rows = "\n".join(f"- {name}: {', '.join(words)}" for name, words in lists.items() if words)
         return f"{self.doc(crate.name)}\n\n{rows}"
