@@ -122,19 +122,25 @@ class Readmes:
         """Returns what is proved of a library, what only tested, and what neither."""
         functions = [it for it in self.callers.items[crate.name] if not it.is_type and not it.is_ghost]
         clauses, tests = sum(it.clauses for it in functions), self.callers.naming(crate.name)
-        returns = f"[returns](../../{PROMISES}#totality-and-named-refusals) on all inputs that meet its conditions"
-        alone = "its lemmas alone" if self.lemmas(crate.name) else "nothing"
-        said = [f"**Proved**: {counted(clauses, 'clause')} of public functions, and that each function, private ones too, {returns}."
-                if functions else f"**Proved**: {alone}, as it shows no function of its own."]
+        said = [f"**Proved**: {'; '.join(self.promised(crate.name, clauses)) or 'nothing, as it has no code of its own'}."]
         said += [self.refused(crate.name)]
         said += [f"**Tests and programs** that name items of it: {coded(tests) or 'none'}."]
         said += [self.unproved(crate.name, it) for it in functions if it.is_public and not it.clauses]
         said += [self.unprinted(crate.name)]
         return "## What is proved, and what not\n\n" + "\n".join(f"- {it}" for it in said if it)
 
-    def lemmas(self, name):
-        """Returns the files of lemmas of a library."""
-        return [*crates.parts(self.texts, name, "proofs"), *self.texts.matching(rf"crates/{name}/specs/\w+Laws\.antt")]
+    def promised(self, name, clauses):
+        """Returns what is proved of a library with so many clauses."""
+        code = "\n".join(self.texts.of(it) for it in self.callers.paths_of(name))
+        lemmas = [*crates.parts(self.texts, name, "proofs"), *self.texts.matching(rf"crates/{name}/specs/\w+Laws\.antt")]
+        returns = f"[returns](../../{PROMISES}#totality-and-named-refusals) on all inputs that meet its conditions"
+        found = {
+            f"{counted(clauses, 'clause')} of public functions": clauses,
+            "what its types owe to the traits that they implement": re.search(r"^(?:unsafe )?impl\b.* for\b", code, re.M),
+            f"that each function, private ones too, {returns}": re.search(r"^ *(?:pub )?(?:const )?fn ", code, re.M),
+            "its lemmas": lemmas,
+        }
+        return [it for it, is_there in found.items() if is_there]
 
     def unproved(self, name, item):
         """Returns what is said of a function without a clause."""
