@@ -5,6 +5,7 @@ import re
 
 from .counts import Counts
 from .names import Names
+from .readme import Readmes
 from .regions import Broken, by_hand, regions_of, written
 from .tables import Tables
 from .texts import Texts
@@ -22,17 +23,21 @@ Writes what pages say that the repository says already, between two comments of 
 
   crates        the crates, what each does, and what it stands on: crates.txt and the first lines of lib.rt and main.rt
   layers        the crates in lines, each of those that stand on the lines before, and the longest chain
-  files         the files of code and of definitions of each crate, by their first lines and the names that they show
-  lemmas        the files of proofs/ of each crate, by their first lines
+  contracts     how many types, functions, laws, clauses and definitions each library has
+  files         the files of code and definitions of each crate without a page, by their first lines and the names that they show
+  lemmas        the files of proofs/ of these crates, by their first lines
+  definitions   the definitions of these crates, by the comment above each
   data          the files of data/, by their first lines
-  definitions   the definitions of each crate, by the comment above each
   edits         how many wrong bodies each crate has
-  contracts     the public functions of the crates below headings of crates.txt, by their doc comments, with their clauses
 
-Without an option it changes nothing and asks: that each region is what it would write; that each number of kinds of steps, wrong
-bodies, and calls and scripts of the Rust crate, is what is there; and that each name in backticks in the text by hand
-of README, SECURITY, DECISIONS, DEFINITIONS, MAP, PROMISES, TEALMUZE, VECTORS and WRONG_BODIES is that of some code, clause or
-file.
+And it writes a page for each library, which no one else does: crates/NAME/README.md. A library is a crate with a lib.rt that
+crates.txt has not under tests. The page has what lib.rt says; the crates below and above; the public functions, with what their
+doc comments say and their clauses; the definitions; what is proved, what only tested; an example; and the other files.
+
+Without an option it changes nothing and asks: that each region and each of these pages is what it would write; that each number
+of kinds of steps, wrong bodies, and calls and scripts of the Rust crate, is what is there; and that each name in backticks in the
+text by hand of README, SECURITY, DECISIONS, DEFINITIONS, MAP, PROMISES, TEALMUZE, VECTORS and WRONG_BODIES is that of some code,
+clause or file.
 
 It prints a row for each that is not so. The last line is 'N passed, M failed'. The exit status is 1 where anything failed."""
 
@@ -52,40 +57,57 @@ def main():
     return check(Texts(ROOT))
 
 
-def pages_of(texts):
-    """Returns the pages."""
-    return texts.matching(r".*\.md")
+def pages_of(texts, without=()):
+    """Returns the pages, but for those that are left out."""
+    return [it for it in texts.matching(r".*\.md") if it not in without]
 
 
 def rewrite(texts):
-    """Writes the regions and the numbers of each page."""
-    writers, counts = Tables(texts).writers(), Counts(texts)
-    for page in pages_of(texts):
+    """Writes the pages of libraries, and the regions and the numbers of each other page."""
+    tables, counts = Tables(texts), Counts(texts)
+    whole = Readmes(texts, tables.every).pages()
+    for page, made in whole.items():
+        write(texts, page, made)
+    for page in pages_of(texts, whole):
         try:
-            made, _ = written(texts.of(page), writers)
+            made, _ = written(texts.of(page), tables.writers())
         except Broken:
             # (the check says it)
             continue
         if not DATED.fullmatch(page):
             made, _, _ = counts.written(made)
-        if made != texts.of(page):
-            with open(f"{texts.root}/{page}", "w", encoding="utf-8") as it:
-                it.write(made)
-            print(f"written   {page}")
+        write(texts, page, made)
+
+
+def write(texts, page, made):
+    """Writes a page where it is not there as it is made."""
+    if page not in texts.files or made != texts.of(page):
+        with open(f"{texts.root}/{page}", "w", encoding="utf-8") as it:
+            it.write(made)
+        print(f"written   {page}")
 
 
 def check(texts):
     """Checks each page, and returns the exit status."""
     tables, counts, passed, rows = Tables(texts), Counts(texts), 0, []
-    names = Names(texts, tables.every)
-    for page in pages_of(texts):
-        found = (of_regions(texts.of(page), tables.writers()), of_numbers(texts, page, counts), of_names(page, names))
-        for seen, wrong in found:
-            passed += seen - len(wrong)
-            rows += [f"FAILED    {page}: {it}" for it in wrong]
+    names, whole = Names(texts, tables.every), Readmes(texts, tables.every).pages()
+    found = [(page, of_library(texts, page, made)) for page, made in whole.items()]
+    for page in pages_of(texts, whole):
+        parts = (of_regions(texts.of(page), tables.writers()), of_numbers(texts, page, counts), of_names(page, names))
+        found += [(page, it) for it in parts]
+    for page, (seen, wrong) in found:
+        passed += seen - len(wrong)
+        rows += [f"FAILED    {page}: {it}" for it in wrong]
     print("".join(f"{it}\n" for it in rows), end="")
     print(f"{passed} passed, {len(rows)} failed")
     return 1 if rows or not passed else 0
+
+
+def of_library(texts, page, made):
+    """Returns that a library has a page, and a row where it is missing or another."""
+    if page not in texts.files:
+        return 1, ["there is no such page: `tools/pages --write` writes it"]
+    return 1, [] if made == texts.of(page) else ["the page is not what `tools/pages --write` writes"]
 
 
 def of_regions(text, writers):

@@ -27,6 +27,16 @@ def crates(texts):
             for name, group, below in rows]
 
 
+def libraries(texts, every):
+    """Returns the crates that have a page of their own: the libraries, but for those that only tests and measurements name."""
+    return [it for it in every if f"crates/{it.name}/src/lib.rt" in texts.files and not is_of_tests(it)]
+
+
+def is_of_tests(crate):
+    """Returns whether a crate is for tests and measurements."""
+    return crate.group.startswith("tests")
+
+
 def reach(every):
     """Returns for each crate the names of all crates that it stands on, directly or not."""
     by_name, found = {it.name: it for it in every}, {}

@@ -1,9 +1,10 @@
-"""What each region of a page says: tables of crates, files, definitions and contracts."""
-from . import contracts, crates
-from .texts import cell, comment_above, sentence
+"""What each region of a page in `docs` says: tables of crates, of contracts, and of what crates without a page have."""
+from . import crates
+from .readme import page_of
+from .rows import coded, definitions_in, items_of, link, table
 
-# What is said of a method of an `impl` whose trait has its doc comment.
-OWN_CLAUSES = "As its trait says, with clauses of its own"
+# A page of the folder in which regions are: their links begin there.
+HERE = "docs/MAP.md"
 
 
 class Tables:
@@ -11,11 +12,17 @@ class Tables:
 
     def __init__(self, texts):
         self.texts, self.every = texts, crates.crates(texts)
+        self.libraries = crates.libraries(texts, self.every)
+        self.others = [it for it in self.every if it not in self.libraries]
 
     def writers(self):
         """Returns what writes a region of each name."""
         names = ("crates", "layers", "files", "lemmas", "data", "definitions", "contracts", "edits")
         return {it: getattr(self, it) for it in names}
+
+    def named(self, crate):
+        """Returns the name of a crate, which leads to its page if it has one."""
+        return link(page_of(crate.name), HERE, crate.name) if crate in self.libraries else f"`{crate.name}`"
 
     def crates(self):
         """Returns the table of crates: what each does, and the nearest that it stands on."""
@@ -23,7 +30,7 @@ class Tables:
         for it in self.every:
             on = [f"`{name}`" for name in crates.nearest(it, below)]
             on += ["the kit's " + ", ".join(f"`{name}`" for name in it.kit)] if it.kit else []
-            rows.append((f"`{it.name}`", crates.does(self.texts, it.name), ", ".join(on) or "nothing"))
+            rows.append((self.named(it), crates.does(self.texts, it.name), ", ".join(on) or "nothing"))
         return table(("Crate", "Does", "Stands on"), rows)
 
     def layers(self):
@@ -33,8 +40,8 @@ class Tables:
         return "```text\n" + "\n".join(lines) + f"\n```\n\nThe longest chain is {longest}.\n"
 
     def files(self):
-        """Returns a table for each crate of its files of code and of definitions."""
-        return "\n".join(filter(None, (self.files_of(it.name) for it in self.every)))
+        """Returns a table of the files of code and of definitions for each crate without a page."""
+        return "\n".join(filter(None, (self.files_of(it.name) for it in self.others)))
 
     def files_of(self, crate):
         """Returns the table of a crate's files, or nothing where its code is in one file."""
@@ -42,41 +49,28 @@ class Tables:
         for path in crates.parts(self.texts, crate, "src"):
             head = self.texts.head(path)
             names = [it for it in crates.shown(self.texts, path) if it not in head]
-            rows.append((link(path, crate), f"{head}{': ' if names and head else ''}{coded(names)}"))
-        rows += [(link(path, crate), self.texts.head(path)) for path in crates.parts(self.texts, crate, "specs")]
+            rows.append((link(path, HERE), f"{head}{': ' if names and head else ''}{coded(names)}"))
+        rows += [(link(path, HERE), self.texts.head(path)) for path in crates.parts(self.texts, crate, "specs")]
         return f"### `{crate}`\n\n{table(('File', 'What it is'), rows)}" if rows else ""
 
     def lemmas(self):
-        """Returns the table of the files of lemmas and worked rows that only their own crate cites."""
-        paths = [path for it in self.every for path in crates.parts(self.texts, it.name, "proofs")]
-        return table(("File", "What it is"), [(link(path, ""), self.texts.head(path)) for path in paths])
+        """Returns the table of the files of lemmas and worked rows that only their own crate cites, of crates without a page."""
+        paths = [path for it in self.others for path in crates.parts(self.texts, it.name, "proofs")]
+        return table(("File", "What it is"), [(within(path), self.texts.head(path)) for path in paths])
 
     def data(self):
         """Returns the table of the files of data: what each says of itself."""
-        rows = [(link(path, ""), self.texts.head(path)) for path in self.texts.matching(r"crates/\w+/data/\w+\.txt")]
+        rows = [(within(path), self.texts.head(path)) for path in self.texts.matching(r"crates/\w+/data/\w+\.txt")]
         return table(("File", "What it says of itself"), rows)
 
     def definitions(self):
-        """Returns a table for each crate of its definitions, by the comment above each."""
+        """Returns a table of the definitions of each crate without a page, by the comment above each."""
         made = []
-        for it in self.every:
+        for it in self.others:
             paths = [path for path in crates.parts(self.texts, it.name, "specs") if not path.endswith("Laws.antt")]
-            rows = [row for path in paths for row in self.definitions_in(path)]
+            rows = [row for path in paths for row in definitions_in(self.texts, path, HERE)]
             made += [f"### `{it.name}`\n\n{table(('Definition', 'What it is'), rows)}"] if rows else []
         return "\n".join(made)
-
-    def definitions_in(self, path):
-        """Yields the row of a file, and those of its definitions; those without a comment stand in one row, the last."""
-        text, bare, head = self.texts.of(path), [], self.texts.head(path)
-        yield link(path, path.split("/")[1]), f"*{head}*"
-        for at, name in crates.defined(text):
-            said = sentence(comment_above(text.split("\n"), at, path))
-            if said and said != head:
-                yield f"`{name}`", said
-            else:
-                bare.append(name)
-        if bare:
-            yield coded(bare), ""
 
     def edits(self):
         """Returns the table of how many wrong bodies each crate has that has any."""
@@ -84,46 +78,26 @@ class Tables:
         rows = [f"| `{name}` | {many} |" for name, many in counts.items() if many]
         return "\n".join(["| Crate | Edits |", "|---|--:|", *rows, f"| all | {sum(counts.values())} |"])
 
-    def contracts(self, *groups):
-        """Returns a table for each crate of the groups with these first words, of its public functions and their clauses."""
-        made = []
-        for it in self.every:
-            if it.group.split(",")[0].replace(" ", "-") in groups:
-                paths = self.texts.matching(rf"crates/{it.name}/src/.*\.rt")
-                rows = [row for path in paths for row in self.contracts_in(path)]
-                made += [f"### `{it.name}`\n\n{table(('Promise', 'Contract'), rows)}"] if rows else []
-        return "\n".join(made)
+    def contracts(self):
+        """Returns the table of the libraries: how much each shows, and how many clauses and definitions it has."""
+        rows = [(self.named(it), *self.counted(it.name)) for it in self.libraries]
+        sums = [sum(row[at] for row in rows) for at in range(1, 6)]
+        heads = ("Crate", "Types and traits", "Functions", "Laws", "Clauses", "Definitions")
+        return table(heads, [[row[0], *(f"{it:,}" for it in row[1:])] for row in [*rows, ("all", *sums)]])
 
-    def contracts_in(self, path):
-        """Yields the rows of a file's types, functions and laws that say something, each with a link to its file."""
-        functions = [it for it in contracts.functions(self.texts, path) if it.is_public or it.owner and it.labels]
-        others = [*contracts.types(self.texts, path), *contracts.laws(self.texts, path)]
-        for it in sorted([*functions, *others], key=lambda it: it.row):
-            said = contracts.told(it) or (OWN_CLAUSES if it.labels and not it.is_public else "")
-            if said:
-                name = f"{it.owner}::{it.name}" if it.owner else it.name
-                clauses = [f"needs {coded(it.needs)}"] if it.needs else []
-                clauses += [coded(it.labels)] if it.labels else []
-                yield said, f"[`{name}`](../{path}){': ' if clauses else ''}{'; '.join(clauses)}"
-                yield from ((f"… {note}", f"`{name}`: `{label}`") for label, note in it.notes.items())
-                yield from ((f"… {remark}", f"`{name}`") for remark in it.remarks)
+    def counted(self, name):
+        """Returns how many types, functions, laws, clauses and definitions a library has."""
+        items = [it for path in self.texts.matching(rf"crates/{name}/src/.*\.rt") for it in items_of(self.texts, path)]
+        types, laws = [it for it in items if it.is_type], [it for it in items if it.is_law and not it.is_ghost]
+        functions = [it for it in items if it.is_public and not (it.is_type or it.is_law)]
+        paths = [it for it in crates.parts(self.texts, name, "specs") if not it.endswith("Laws.antt")]
+        many = sum(len(list(crates.defined(self.texts.of(it)))) for it in paths)
+        return len(types), len(functions), len(laws), sum(it.clauses for it in items), many
 
 
-def table(heads, rows):
-    """Returns a table of Markdown."""
-    lines = [heads, ["---"] * len(heads), *([cell(it) for it in row] for row in rows)]
-    return "".join(f"| {' | '.join(it)} |\n" for it in lines)
-
-
-def link(path, crate):
-    """Returns a link to a file from a page in `docs`, named by its path within the crate, or within `crates`."""
-    shown = path.removeprefix(f"crates/{crate}/" if crate else "crates/")
-    return f"[`{shown}`](../{path})"
-
-
-def coded(names):
-    """Returns names in backticks, each once."""
-    return ", ".join(f"`{it}`" for it in dict.fromkeys(names))
+def within(path):
+    """Returns a link to a file, named by its path within `crates`."""
+    return link(path, HERE, path.removeprefix("crates/"))
 
 
 def wrapped(names, width):
