@@ -12,8 +12,8 @@
 //! it asks for each value at its step. The closure sees everything drawn before: a FRI prover folds its layer by the
 //! last challenge, and answers the Merkle root of the result.
 //!
-//! The contract holds for any closure, honest or not. The result is that of `prove` for the returned values, and each
-//! value was given to exactly the challenges drawn before its place. Not in the Rust crate.
+//! The contract holds for any closure, honest or not. The result is that of `prove` for the returned values, and the
+//! closure returned each of them for exactly the challenges drawn before its step. Not in the Rust crate.
 #![tactic(auto)]
 
 mod answering;

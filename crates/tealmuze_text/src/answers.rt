@@ -15,7 +15,7 @@ pub struct Answer {
     pub status: u8,
 }
 
-/// What is written: as JSON where that is asked for, and else as this text.
+/// What is written: JSON if it is asked for, otherwise this text.
 pub fn written<T: ToJson>(
     alloc: Global,
     request: &Request<'_>,

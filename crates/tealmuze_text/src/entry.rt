@@ -7,7 +7,7 @@ use toml::{Table, Value};
 // What the reader of TOML says before the line and the column of an error.
 const PARSE_ERROR: &str = "TOML parse error at ";
 
-/// The table that a text in TOML says. The error has the line and the column where it says none.
+/// The table that a text in TOML says. Where it says none, the error has the line and the column.
 pub fn parse_table(alloc: Global, text: &str) -> Result<Table> {
     match toml::table_from_str(alloc, text) {
         Ok(table) => Ok(table),

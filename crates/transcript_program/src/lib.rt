@@ -1,4 +1,4 @@
-//! The program `transcript`, all but the arguments and the writer that it is given: what it answers.
+//! What the program `transcript` answers to its arguments and input, and how it writes that.
 #![tactic(auto)]
 
 mod arguments;

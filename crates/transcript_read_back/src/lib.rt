@@ -1,4 +1,4 @@
-//! What a transcript queried the permutation of its challenger, or the hash function, with tells of
+//! What the queries of a transcript's challenger, to its permutation or its hash function, tell of
 //! the transcript.
 #![tactic(auto)]
 

@@ -110,9 +110,9 @@ impl<H: CryptographicHasher<u8, [u8; 32]>> Suite for OverHash<H> {
 ///   states and leave the same pending have the same version, name and chunks. Their patterns are
 ///   the same but for the names of types, and so is what each step absorbed, unless the alternate
 ///   renderings of the two patterns differ and share a digest.
-/// - `or_collides`: where they query equally many states, the same last, it is so too, or at one
-///   place of what they query stand two different states whose images are equal past cell
-///   `RATE`, and in cell `RATE` differ by a number from `-RATE` to `RATE`.
+/// - `or_collides`: where they query equally many states, and the same one last, it is so too, or
+///   two different states at one place collide: their images are equal past cell `RATE`, and differ
+///   in cell `RATE` by a number from `-RATE` to `RATE`.
 /// - `accepted`: two accepted proofs of one script that query the same states, and whose final
 ///   challengers have the same pending, have the same values but for hints and witnesses of 0 bits,
 ///   the same challenges and the same final challenger. `accepted_or_collides` says it of equally
