@@ -8,19 +8,28 @@ use p3_field::{
 
 // ---- what generic code knows: each of these is proved from its bound alone
 
-fn sum<F: BinomialModulus<4>>(x: BinomialExtensionField<F, 4>, y: BinomialExtensionField<F, 4>) -> BinomialExtensionField<F, 4>
+fn sum<F: BinomialModulus<4>>(
+    x: BinomialExtensionField<F, 4>,
+    y: BinomialExtensionField<F, 4>,
+) -> BinomialExtensionField<F, 4>
     ensures { result ≡ polynomial_sum F.residues x y }
 {
     x + y
 }
 
-fn difference<F: BinomialModulus<4>>(x: BinomialExtensionField<F, 4>, y: BinomialExtensionField<F, 4>) -> BinomialExtensionField<F, 4>
+fn difference<F: BinomialModulus<4>>(
+    x: BinomialExtensionField<F, 4>,
+    y: BinomialExtensionField<F, 4>,
+) -> BinomialExtensionField<F, 4>
     ensures { result ≡ polynomial_difference F.residues x y }
 {
     x - y
 }
 
-fn product<F: BinomialModulus<4>>(x: BinomialExtensionField<F, 4>, y: BinomialExtensionField<F, 4>) -> BinomialExtensionField<F, 4>
+fn product<F: BinomialModulus<4>>(
+    x: BinomialExtensionField<F, 4>,
+    y: BinomialExtensionField<F, 4>,
+) -> BinomialExtensionField<F, 4>
     ensures { result ≡ polynomial_product F.residues (F.residues.of F.W) y x }
 {
     extensions_are_rings::<F>();
