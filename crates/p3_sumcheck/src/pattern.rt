@@ -1,6 +1,7 @@
 //! The steps of a sumcheck in a pattern.
 ghost use Rattle.std.specs.Prelude.{◌≡◌, ◌++◌, ℕ, false, IfErr, OnOk};
-ghost use Rattle.p3_challenger.specs.{PatternGrammar.IsViable, TranscriptError.TheVariants.OutOfMemory};
+ghost use Rattle.p3_challenger.specs.PatternGrammar.{IsViable};
+ghost use Rattle.p3_challenger.specs.TranscriptError.TheVariants.{OutOfMemory};
 ghost use Rattle.p3_sumcheck.specs.Sumchecks.{AreNextWhereListed, RefusesToDeclare, sumcheck_steps};
 
 use p3_challenger::fs::{

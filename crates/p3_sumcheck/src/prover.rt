@@ -35,11 +35,11 @@ pub fn prove<
 ) -> Result<(Vec<F>, F), TranscriptError>
     requires size { (n : ℕ) × (length table.items ≡ 2 ^ n) }
     requires secure { 128 ≤ Cdc.SECURITY_BITS }
-    ensures ok { WritesTrueRounds ⟦<Cdc as Sums<F, C, D>>⟧.sumcheck table.items
+    ensures ok { WritesTrueRounds ⟦<F as Sums<F, C, D, Cdc>>⟧.sumcheck table.items
         (proving_of C.state prover.old) result (proving_of C.state prover.new) }
-    ensures err { NamesUnwrittenRound ⟦<Cdc as Sums<F, C, D>>⟧.sumcheck table.items
+    ensures err { NamesUnwrittenRound ⟦<F as Sums<F, C, D, Cdc>>⟧.sumcheck table.items
         (proving_of C.state prover.old) result (proving_of C.state prover.new) }
-    ensures only { PlaysRoundsNext ⟦<Cdc as Sums<F, C, D>>⟧.sumcheck table.items
+    ensures only { PlaysRoundsNext ⟦<F as Sums<F, C, D, Cdc>>⟧.sumcheck table.items
         (proving_of C.state prover.old) result (proving_of C.state prover.new) }
 {
     let mut point = Vec::new(alloc);
@@ -61,10 +61,10 @@ fn send_round<
     Cdc: Codec<C, F>,
 >(prover: &mut ProverState<C, U, D>, pair: (F, F)) -> Result<F, TranscriptError>
     requires { 128 ≤ Cdc.SECURITY_BITS }
-    ensures ok { IfOk result (λ x. WritesRound ⟦<Cdc as Sums<F, C, D>>⟧.sumcheck
+    ensures ok { IfOk result (λ x. WritesRound ⟦<F as Sums<F, C, D, Cdc>>⟧.sumcheck
         (proving_of C.state prover.old) (record { first = pair.0; second = pair.1; challenge = x })
         (proving_of C.state prover.new)) }
-    ensures err { IfErr result (λ e. RefusesToSend ⟦<Cdc as Sums<F, C, D>>⟧.sumcheck
+    ensures err { IfErr result (λ e. RefusesToSend ⟦<F as Sums<F, C, D, Cdc>>⟧.sumcheck
         (pair.0 ∷ pair.1 ∷ []) (proving_of C.state prover.old) e (proving_of C.state prover.new)) }
 {
     prover.add_scalars::<F, Cdc>("round", &[pair.0, pair.1])?;

@@ -2,9 +2,10 @@
 ghost use Rattle.std.specs.Prelude.{◌≡◌, ◌≤◌, ◌∷◌, [], IfErr, IfOk};
 ghost use Rattle.p3_challenger.specs.{Drivers.verifying_of, Verifying.ReceivesOrRefuses};
 ghost use Rattle.p3_field.specs.Residues.{sum_of};
-ghost use Rattle.p3_sumcheck.specs.Results.{AcceptsReadRounds, AcceptsRoundsAhead, AcceptsTrueRounds};
-ghost use Rattle.p3_sumcheck.specs.Results.{FalseClaimNeedsLuckyRound, FindsNoPatternFault};
-ghost use Rattle.p3_sumcheck.specs.Results.{NamesRefusedRound, PassesRounds, StopsAtFirstWrongPair};
+ghost use Rattle.p3_sumcheck.specs.Results.{AcceptsReadRounds, AcceptsRoundsAhead};
+ghost use Rattle.p3_sumcheck.specs.Results.{AcceptsTrueRounds, FalseClaimNeedsLuckyRound};
+ghost use Rattle.p3_sumcheck.specs.Results.{FindsNoPatternFault, NamesRefusedRound, PassesRounds};
+ghost use Rattle.p3_sumcheck.specs.Results.{StopsAtFirstWrongPair};
 ghost use Rattle.p3_sumcheck.specs.Sumchecks.{ReadsRound, RefusesRound, read_pair};
 
 use crate::table::{adds, value_at};
@@ -43,21 +44,21 @@ pub fn verify<
     verifier: &mut VerifierState<'_, C, U, D>,
 ) -> Result<(Vec<F>, F), SumcheckError>
     requires { 128 ≤ Cdc.SECURITY_BITS }
-    ensures accepts { AcceptsReadRounds ⟦<Cdc as Sums<F, C, D>>⟧.sumcheck claim rounds
+    ensures accepts { AcceptsReadRounds ⟦<F as Sums<F, C, D, Cdc>>⟧.sumcheck claim rounds
         (verifying_of C.state verifier.old) result (verifying_of C.state verifier.new) }
-    ensures passed { PassesRounds ⟦<Cdc as Sums<F, C, D>>⟧.sumcheck claim rounds
+    ensures passed { PassesRounds ⟦<F as Sums<F, C, D, Cdc>>⟧.sumcheck claim rounds
         (verifying_of C.state verifier.old) result (verifying_of C.state verifier.new) }
-    ensures only { AcceptsRoundsAhead ⟦<Cdc as Sums<F, C, D>>⟧.sumcheck claim rounds
+    ensures only { AcceptsRoundsAhead ⟦<F as Sums<F, C, D, Cdc>>⟧.sumcheck claim rounds
         (verifying_of C.state verifier.old) result (verifying_of C.state verifier.new) }
-    ensures refuses { NamesRefusedRound ⟦<Cdc as Sums<F, C, D>>⟧.sumcheck claim rounds
+    ensures refuses { NamesRefusedRound ⟦<F as Sums<F, C, D, Cdc>>⟧.sumcheck claim rounds
         (verifying_of C.state verifier.old) result (verifying_of C.state verifier.new) }
-    ensures next { FindsNoPatternFault ⟦<Cdc as Sums<F, C, D>>⟧.sumcheck claim rounds
+    ensures next { FindsNoPatternFault ⟦<F as Sums<F, C, D, Cdc>>⟧.sumcheck claim rounds
         (verifying_of C.state verifier.old) result (verifying_of C.state verifier.new) }
-    ensures disagrees { StopsAtFirstWrongPair ⟦<Cdc as Sums<F, C, D>>⟧.sumcheck claim rounds
+    ensures disagrees { StopsAtFirstWrongPair ⟦<F as Sums<F, C, D, Cdc>>⟧.sumcheck claim rounds
         (verifying_of C.state verifier.old) result (verifying_of C.state verifier.new) }
-    ensures complete { AcceptsTrueRounds ⟦<Cdc as Sums<F, C, D>>⟧.sumcheck claim rounds
+    ensures complete { AcceptsTrueRounds ⟦<F as Sums<F, C, D, Cdc>>⟧.sumcheck claim rounds
         (verifying_of C.state verifier.old) result (verifying_of C.state verifier.new) }
-    ensures sound { FalseClaimNeedsLuckyRound ⟦<Cdc as Sums<F, C, D>>⟧.sumcheck claim rounds
+    ensures sound { FalseClaimNeedsLuckyRound ⟦<F as Sums<F, C, D, Cdc>>⟧.sumcheck claim rounds
         (verifying_of C.state verifier.old) result (verifying_of C.state verifier.new) }
 {
     // Laws, which do nothing: where a pair was sent, or a challenge drawn, memory alone can be
@@ -81,9 +82,9 @@ fn receive_rounds<
     verifier: &mut VerifierState<'_, C, U, D>,
 ) -> Result<(Vec<F>, F), SumcheckError>
     requires { 128 ≤ Cdc.SECURITY_BITS }
-    ensures accepts { AcceptsReadRounds ⟦<Cdc as Sums<F, C, D>>⟧.sumcheck claim rounds
+    ensures accepts { AcceptsReadRounds ⟦<F as Sums<F, C, D, Cdc>>⟧.sumcheck claim rounds
         (verifying_of C.state verifier.old) result (verifying_of C.state verifier.new) }
-    ensures refuses { NamesRefusedRound ⟦<Cdc as Sums<F, C, D>>⟧.sumcheck claim rounds
+    ensures refuses { NamesRefusedRound ⟦<F as Sums<F, C, D, Cdc>>⟧.sumcheck claim rounds
         (verifying_of C.state verifier.old) result (verifying_of C.state verifier.new) }
 {
     let mut point = Vec::new(alloc);
@@ -110,9 +111,9 @@ fn receive_round<
 ) -> Result<Round<F>, SumcheckError>
     requires { 128 ≤ Cdc.SECURITY_BITS }
     ensures adds { IfOk result (λ round. sum_of F.residues round.first round.second ≡ claim) }
-    ensures ok { IfOk result (λ round. ReadsRound ⟦<Cdc as Sums<F, C, D>>⟧.sumcheck
+    ensures ok { IfOk result (λ round. ReadsRound ⟦<F as Sums<F, C, D, Cdc>>⟧.sumcheck
         (verifying_of C.state verifier.old) round (verifying_of C.state verifier.new)) }
-    ensures err { IfErr result (λ e. RefusesRound ⟦<Cdc as Sums<F, C, D>>⟧.sumcheck claim place
+    ensures err { IfErr result (λ e. RefusesRound ⟦<F as Sums<F, C, D, Cdc>>⟧.sumcheck claim place
         (verifying_of C.state verifier.old) e (verifying_of C.state verifier.new)) }
 {
     // A law, which does nothing: what is read of bytes is encoded so. And what is left to read are
@@ -139,7 +140,7 @@ fn receive_pair<
     D: DigestHasher,
     Cdc: Codec<C, F>,
 >(verifier: &mut VerifierState<'_, C, U, D>) -> Result<(F, F), TranscriptError>
-    ensures { ReceivesOrRefuses (read_pair ⟦<Cdc as Sums<F, C, D>>⟧.sumcheck)
+    ensures { ReceivesOrRefuses (read_pair ⟦<F as Sums<F, C, D, Cdc>>⟧.sumcheck)
         (verifying_of C.state verifier.old) (λ pair. pair.0 ∷ pair.1 ∷ []) result
         (verifying_of C.state verifier.new) }
 {
