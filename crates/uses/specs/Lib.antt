@@ -1,4 +1,5 @@
 pub mod BoundValues
+pub mod ByteChallenger
 pub mod CommitPhase
 pub mod DemoScript
 pub mod ExtraValue
