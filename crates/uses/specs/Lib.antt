@@ -1,8 +1,8 @@
 pub mod BoundValues
-pub mod ByteChallenger
 pub mod CommitPhase
 pub mod DemoScript
 pub mod ExtraValue
+pub mod FriScript
 pub mod MerkleOpening
 pub mod OwnAlgebra
 pub mod OwnAlgebraLaws

@@ -120,7 +120,8 @@ module _ {S Symbol : Type 0} (line : LineRules S Symbol) where
 
   -- the bytes are a proof of a line from this state
   abbrev pub IsProofFrom : S → BabyBear → BabyBear → List ℕ → Type 0
-  IsProofFrom s slope offset bytes = IsSent line.observation line.places line.divisors line.encoding s slope offset bytes
+  IsProofFrom s slope offset bytes =
+      IsSent line.observation line.places line.divisors line.encoding s slope offset bytes
 
   -- a prover adds a proof of the line
   abbrev pub SendsLine : BabyBear → BabyBear → Driving S → Driving S → Type 0
@@ -143,8 +144,8 @@ module _ {S Symbol : Type 0} (line : LineRules S Symbol) where
 
   -- a verifier with a run ahead reads its claim, and is past it then, or is out of memory
   abbrev pub ReadsRunAhead : Driving S → Result Claim TranscriptError → Driving S → Type 0
-  ReadsRunAhead before result after = (claim : Claim) (rest : List ℕ) → IsAhead line.observation line.places line.divisors
-      line.encoding line.digest before claim rest →
+  ReadsRunAhead before result after = (claim : Claim) (rest : List ℕ) →
+      IsAhead line.observation line.places line.divisors line.encoding line.digest before claim rest →
       MatchResult result (λ found. (found ≡ claim) × IsPast before rest after) (λ e. e ≡ OutOfMemory)
 
   -- a side with a divisor ahead draws it, and plays the step then, or is out of memory

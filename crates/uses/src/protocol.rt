@@ -6,8 +6,7 @@
 //! [`verify`] says that they do, and which bytes the proof is.
 ghost use Rattle.std.specs.Prelude.{◌≡◌, ◌+◌, ◌++◌, ℕ, [], length, IfOk, OnOk};
 ghost use Rattle.p3_challenger.specs.{HashCalls.with_pending, HashState.HashState, Sha256Hasher.Sha256Hasher};
-ghost use Rattle.p3_challenger.specs.{Drivers.{proving_of, verifying_of}, SeparatorSeed.pattern_of};
-ghost use Rattle.uses.specs.ByteChallenger.{seeded};
+ghost use Rattle.p3_challenger.specs.{Drivers.{proving_of, verifying_of}, SeparatorSeed.{pattern_of, seed_of_separator}};
 ghost use Rattle.uses.specs.Protocol.{AcceptsRuns, AnswersRun, DrawsDivisor, DrawsDivisorAhead, DrawsPlace, IsDivisor};
 ghost use Rattle.uses.specs.Protocol.{IsProofFrom, IsRunUnder, LineRules, ReadsClaim, ReadsRunAhead, SendsLine};
 ghost use Rattle.uses.specs.Protocol.{may_divide, steps_of_line};
@@ -68,7 +67,10 @@ impl Line for Claim {
       divisors = ⟦<Coefficient as Codec<Challenger, BabyBear>>⟧.sampling;
       encoding = ⟦<Scalars as Codec<Challenger, BabyBear>>⟧.encoding;
       digest = ⟦<Sha256Hasher as DigestHasher>⟧.digest_of ⟦<BabyBear as AlgebraIdentity<BabyBear>>⟧.identity;
-      seeded = seeded ⟦<Sha256Hasher as DigestHasher>⟧.digest_of;
+      seeded = λ separator. record {
+        sponge = with_pending (seed_of_separator ⟦<Sha256Hasher as DigestHasher>⟧.digest_of separator);
+        hasher = record {};
+      };
     } };
 }
 
