@@ -66,7 +66,7 @@ pub fn begin_with_zeros<P: CryptographicPermutation<[BabyBear; 16]>>(
 ) -> DuplexChallenger<BabyBear, P, 16, 8>
     requires { 1 ≤ draw_limit }
     ensures starts { result ≡ record
-      { sponge = fresh baby_bear.residues 16; permutation = permutation; draw_limit = draw_limit } }
+        { sponge = fresh baby_bear.residues 16; permutation = permutation; draw_limit = draw_limit } }
     ensures tells { duplex.ReadsBack baby_bear.residues (P.permutation permutation) 8 result.sponge }
     ensures or_collides { duplex.ReadsBackOrCollides baby_bear.residues (P.permutation permutation) 8 result.sponge }
     ensures rounds { RoundsReadBack
