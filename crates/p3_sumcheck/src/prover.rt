@@ -35,10 +35,12 @@ pub fn prove<
 ) -> Result<(Vec<F>, F), TranscriptError>
     requires size { (n : ℕ) × (length table.items ≡ 2 ^ n) }
     requires secure { 128 ≤ Cdc.SECURITY_BITS }
+    // The true pairs are written, and the table's value at the point is returned.
     ensures ok { WritesTrueRounds ⟦<F as Sums<F, C, D, Cdc>>⟧.sumcheck table.items
         (proving_of C.state prover.old) result (proving_of C.state prover.new) }
     ensures err { NamesUnwrittenRound ⟦<F as Sums<F, C, D, Cdc>>⟧.sumcheck table.items
         (proving_of C.state prover.old) result (proving_of C.state prover.new) }
+    // Where the rounds are next they are played, or the challenger alone or memory refuses.
     ensures only { PlaysRoundsNext ⟦<F as Sums<F, C, D, Cdc>>⟧.sumcheck table.items
         (proving_of C.state prover.old) result (proving_of C.state prover.new) }
 {

@@ -44,20 +44,26 @@ pub fn verify<
     verifier: &mut VerifierState<'_, C, U, D>,
 ) -> Result<(Vec<F>, F), SumcheckError>
     requires { 128 ≤ Cdc.SECURITY_BITS }
+    // What is accepted are so many rounds, each pair next in the proof and adding to the claim.
     ensures accepts { AcceptsReadRounds ⟦<F as Sums<F, C, D, Cdc>>⟧.sumcheck claim rounds
         (verifying_of C.state verifier.old) result (verifying_of C.state verifier.new) }
     ensures passed { PassesRounds ⟦<F as Sums<F, C, D, Cdc>>⟧.sumcheck claim rounds
         (verifying_of C.state verifier.old) result (verifying_of C.state verifier.new) }
+    // Rounds that may be so accepted are, or memory is out.
     ensures only { AcceptsRoundsAhead ⟦<F as Sums<F, C, D, Cdc>>⟧.sumcheck claim rounds
         (verifying_of C.state verifier.old) result (verifying_of C.state verifier.new) }
     ensures refuses { NamesRefusedRound ⟦<F as Sums<F, C, D, Cdc>>⟧.sumcheck claim rounds
         (verifying_of C.state verifier.old) result (verifying_of C.state verifier.new) }
+    // Where the rounds are next, no step is refused for the sake of the pattern.
     ensures next { FindsNoPatternFault ⟦<F as Sums<F, C, D, Cdc>>⟧.sumcheck claim rounds
         (verifying_of C.state verifier.old) result (verifying_of C.state verifier.new) }
+    // The first pair that does not add to its claim is refused as that of its round.
     ensures disagrees { StopsAtFirstWrongPair ⟦<F as Sums<F, C, D, Cdc>>⟧.sumcheck claim rounds
         (verifying_of C.state verifier.old) result (verifying_of C.state verifier.new) }
+    // What a prover sent of a table is accepted for the table's sum, or memory is out.
     ensures complete { AcceptsTrueRounds ⟦<F as Sums<F, C, D, Cdc>>⟧.sumcheck claim rounds
         (verifying_of C.state verifier.old) result (verifying_of C.state verifier.new) }
+    // A claim that is not a table's sum, and yet ends in its value, needs a lucky challenge.
     ensures sound { FalseClaimNeedsLuckyRound ⟦<F as Sums<F, C, D, Cdc>>⟧.sumcheck claim rounds
         (verifying_of C.state verifier.old) result (verifying_of C.state verifier.new) }
 {
