@@ -2,7 +2,6 @@ pub mod BoundValues
 pub mod CommitPhase
 pub mod DemoScript
 pub mod ExtraValue
-pub mod FriScript
 pub mod MerkleOpening
 pub mod OwnAlgebra
 pub mod OwnAlgebraLaws

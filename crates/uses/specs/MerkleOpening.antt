@@ -58,7 +58,7 @@ pub record IsOpened {S : Type 0} (digest : List ℕ → List ℕ) (d : Sampling 
   pub drawn : IsDrawnPlace d place (observed s root) here
   pub challenger : t ≡ observed (observed here (length leaf ∷ leaf)) salt
 
--- a driver reads what is opened so
+-- a driver reads an opened leaf at a place
 abbrev pub ReadsOpened : {S : Type 0} → (List ℕ → S → ℕ → List ℕ → List ℕ → S → Type 0) → Driving S → ℕ → List ℕ →
     Driving S → Type 0
 ReadsOpened IsOpenedBy before place leaf after =

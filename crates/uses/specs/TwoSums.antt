@@ -27,7 +27,8 @@ abbrev pub RecordsViable : {R : Type 0} → List Step → Recording → Result R
 RecordsViable steps before result after = before.finished ≡ false → IsViable (before.steps ++ steps) →
     MatchResult result (λ _. after.finished ≡ false) (λ e. e ≡ OutOfMemory)
 
--- where these steps are next they are played, and the driver stands after them then, or they are refused so
+-- Where these steps are next they are played, and the driver then stands after them, or one of them is refused with
+-- such a fault.
 abbrev pub PlaysNext : {S R E : Type 0} → List Step → (E → Type 0) → Driving S → Result R E → Driving S → Type 0
 PlaysNext steps IsFault before result after = AreNext steps before.transcript.playing → MatchResult result
     (λ _. after.transcript.playing ≡ steps_on steps before.transcript.playing) IsFault

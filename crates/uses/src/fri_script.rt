@@ -8,9 +8,9 @@
 //!
 //! Layers are of the base field here, and a tree is of one leaf, which has the whole layer.
 ghost use Rattle.std.specs.Prelude.{◌≡◌, [], IfOk, IfErr};
-ghost use Rattle.p3_challenger.specs.{Runs.{AreAdmitted, carried_count}, Scripts.play_of, Verdicts.script_of};
+ghost use Rattle.p3_challenger.specs.{HashCalls.with_pending, Verdicts.script_of};
+ghost use Rattle.p3_challenger.specs.{Runs.{AreAdmitted, carried_count}, Scripts.play_of};
 ghost use Rattle.p3_challenger.specs.VerifierAnswers.{IsVerifiedScript, IsRefusedProof};
-ghost use Rattle.uses.specs.FriScript.{fresh_challenger};
 
 use p3_challenger::fs::script::{
     AcceptAll, Answered, Drawn, Fault, Meaning, Plain, ProveByError, Sent, Step, Suite, Verified,
@@ -61,7 +61,7 @@ pub type Separator = DomainSeparator<u8, Sha256Hasher>;
 
 // What both sides begin with.
 fn challenger(alloc: Global) -> Challenger
-    ensures { result ≡ fresh_challenger }
+    ensures { result ≡ record { sponge = with_pending []; hasher = record {} } }
 {
     HashChallenger::new(Vec::new(alloc), Sha256Hasher)
 }
@@ -137,9 +137,11 @@ pub fn verify<'a>(
     requires admitted { AreAdmitted (play_of (⟦<Fri as Meaning>⟧.rules 1)) steps.now }
     requires carried { carried_count (play_of (⟦<Fri as Meaning>⟧.rules 1)) steps.now ≡ 0 }
     ensures accepted { IfOk result (IsVerifiedScript (⟦<Fri as Meaning>⟧.rules 1)
-        (script_of fresh_challenger separator.now steps.now) proof.now [] ⟦<Challenger as Sponge>⟧.state) }
+        (script_of (record { sponge = with_pending []; hasher = record {} }) separator.now steps.now)
+        proof.now [] ⟦<Challenger as Sponge>⟧.state) }
     ensures refused { IfErr result (IsRefusedProof (⟦<Fri as Meaning>⟧.rules 1)
-        (script_of fresh_challenger separator.now steps.now) proof.now []) }
+        (script_of (record { sponge = with_pending []; hasher = record {} }) separator.now steps.now)
+        proof.now []) }
 {
     script::verify::<Fri>(alloc, challenger(alloc), separator, steps, &[], proof)
 }
