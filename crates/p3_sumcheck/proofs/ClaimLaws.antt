@@ -6,7 +6,7 @@ use Rattle.p3_field.specs.{Residues.{Residues, IsResidues, sum_of}, ResidueLaws.
 use Rattle.p3_sumcheck.{proofs.Folding.{total-folded, folded-half}, specs.declared.round.Round.Round}
 use Rattle.p3_sumcheck.specs.{Tables.{high_half, folded_at, low_half, folded, total}, Sumchecks.challenges_of}
 use Rattle.p3_sumcheck.specs.Claims.{HasLuckyRound, claim_after, true_rounds, true_round, Reduces}
-use Rattle.p3_sumcheck.proofs.Sums.{total-halves, total-one}
+use Rattle.p3_sumcheck.proofs.TableSums.{total-halves, total-one}
 
 -- ---- sizes
 

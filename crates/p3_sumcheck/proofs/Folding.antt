@@ -5,8 +5,8 @@ use Rattle.std.proofs.lemmas.List.{take_all, take_more_set, drop-set-lt, drop-dr
 use Rattle.std.proofs.{Math.Seq.{take-append_seam, drop-append_seam}, lemmas.Slice.Zip.length-zip}
 use Rattle.p3_field.specs.{Residues.{Residues, IsResidues, sum_of, difference_of, product_of}, Rings.IsRing}
 use Rattle.p3_field.specs.RingLaws.{residues-ring}
-use Rattle.p3_sumcheck.{specs.Tables.{low_half, high_half, value_at, total, fold_pairs, folded}, proofs.Sums.total-cons}
-use Rattle.p3_sumcheck.proofs.Sums.{total-push}
+use Rattle.p3_sumcheck.specs.Tables.{low_half, high_half, value_at, total, fold_pairs, folded}
+use Rattle.p3_sumcheck.proofs.TableSums.{total-cons, total-push}
 
 -- what is the same from a place on is the same from the next one on
 drop-one-more : {F : Type 0} (xs ys : List F) (i : ℕ) → drop i xs ≡ drop i ys → drop (i + 1) xs ≡ drop (i + 1) ys

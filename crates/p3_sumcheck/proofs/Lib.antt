@@ -6,5 +6,5 @@ pub mod Over
 pub mod Reading
 pub mod Refusing
 pub mod Sending
-pub mod Sums
+pub mod TableSums
 mod WorkedRows

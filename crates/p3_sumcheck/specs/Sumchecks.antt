@@ -1,9 +1,10 @@
 -- A sumcheck in a transcript: its rounds on both sides, and the result of each side.
-use Rattle.std.specs.Prelude.{◌≡◌, ℕ, ◌^◌, ◌<◌, ◌≤◌, ◌⊎◌, List, [], ◌∷◌, ◌++◌, codes, length, map}
+use Rattle.std.specs.Prelude.{◌≡◌, ℕ, ◌^◌, ◌<◌, ◌≤◌, ◌⊎◌, false, List, [], ◌∷◌, ◌++◌, codes, length, map}
 use Rattle.p3_challenger.specs.{Observation.Observation, Proving.{RefusesToWrite, Writes}, Rounds.steps_of_rounds}
 use Rattle.p3_challenger.specs.{Rounds.AreRounds, Errors.IsBadShape, TranscriptError.TranscriptError, Sampling.Sampling}
 use Rattle.p3_challenger.specs.{TranscriptError.TheVariants.OutOfMemory, Verifying.RefusesToRead, Encoding.Encoding}
-use Rattle.p3_challenger.specs.{Transcripts.{RefusesStep, Transcript, PlaysStep, Meaning}, Meanings.{sent_list, drawn}}
+use Rattle.p3_challenger.specs.{Transcripts.{AreNext, RefusesStep, Transcript, PlaysStep, Meaning}, Playing.Playing}
+use Rattle.p3_challenger.specs.Meanings.{sent_list, drawn}
 use Rattle.p3_challenger.specs.{Steps.{NamedAlgebra, algebra_step, Step}, Recording.{RefusesToRecord, Recording}}
 use Rattle.p3_challenger.specs.{Driving.Driving, Completeness.IsOwnRefusal, Length.TheVariants.{Scalar, Fixed}}
 use Rattle.p3_challenger.specs.{Codec.Ghosts, Reads.{received_list, Reading}, Kind.TheVariants.{Challenge, Message}}
@@ -153,3 +154,9 @@ IsMemory e = e ≡ fault.Transcript OutOfMemory
 abbrev pub RefusesToDeclare : List Step → Recording → TranscriptError → Recording → Type 0
 RefusesToDeclare steps before e after = (done : List Step) × (next : Step) × (others : List Step) × (here : Recording)
     × (steps ≡ done ++ (next ∷ others)) × (here.steps ≡ before.steps ++ done) × RefusesToRecord here next e after
+
+-- a player whose pattern has these steps, and who stands before them and has refused none, has them next
+abbrev pub AreNextWhereListed : List Step → Type 0
+AreNextWhereListed steps = (before after : List Step) (playing : Playing) →
+    playing.pattern.steps ≡ before ++ (steps ++ after) → playing.position ≡ length before →
+    playing.finished ≡ false → AreNext steps playing

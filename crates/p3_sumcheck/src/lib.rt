@@ -18,6 +18,7 @@ mod prover;
 mod round;
 mod table;
 mod verifier;
+mod view;
 
 pub use error::SumcheckError;
 pub use pattern::{declare, declared_rounds_are_next};
@@ -25,3 +26,4 @@ pub use prover::prove;
 pub use round::Round;
 pub use table::sum;
 pub use verifier::verify;
+pub use view::Sums;

@@ -1,8 +1,8 @@
 //! The steps of a sumcheck in a pattern.
-ghost use Rattle.std.specs.Prelude.{◌≡◌, ◌++◌, ℕ, List, false, length, IfErr, OnOk};
-ghost use Rattle.p3_challenger.specs.{PatternGrammar.IsViable, Playing.Playing, Steps.Step, Transcripts.AreNext};
+ghost use Rattle.std.specs.Prelude.{◌≡◌, ◌++◌, ℕ, false, IfErr, OnOk};
+ghost use Rattle.p3_challenger.specs.PatternGrammar.{IsViable};
 ghost use Rattle.p3_challenger.specs.TranscriptError.TheVariants.{OutOfMemory};
-ghost use Rattle.p3_sumcheck.specs.Sumchecks.{RefusesToDeclare, sumcheck_steps};
+ghost use Rattle.p3_sumcheck.specs.Sumchecks.{AreNextWhereListed, RefusesToDeclare, sumcheck_steps};
 
 use p3_challenger::fs::{
     Declared, Hierarchy, Interaction, Kind, Length, Pattern, PatternState, TranscriptError,
@@ -45,10 +45,7 @@ pub fn declare<F: ScalarField, U, D: DigestHasher>(
 ///
 /// A law: the body does nothing, and a caller cites the clause.
 pub fn declared_rounds_are_next<F: ScalarField, D: DigestHasher>()
-    ensures { let steps = sumcheck_steps ⟦<F as Declared<F, D>>⟧.algebra in
-        (n : ℕ) (before after : List Step) (playing : Playing) →
-        playing.pattern.steps ≡ before ++ (steps n ++ after) → playing.position ≡ length before →
-        playing.finished ≡ false → AreNext (steps n) playing }
+    ensures { (n : ℕ) → AreNextWhereListed (sumcheck_steps ⟦<F as Declared<F, D>>⟧.algebra n) }
 {
     listed_steps_are_next();
 }

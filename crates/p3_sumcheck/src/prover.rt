@@ -1,12 +1,13 @@
 //! The prover's side.
-ghost use Rattle.std.specs.Prelude.{◌≡◌, ◌≤◌, ◌^◌, ℕ, ◌∷◌, [], length, IfErr, IfOk, MatchResult};
-ghost use Rattle.p3_challenger.specs.{Completeness.IsOwnRefusal, Drivers.proving_of, Transcripts.{AreNext, steps_on}};
-ghost use Rattle.p3_sumcheck.specs.Sumchecks.{Proves, RefusesToProve, RefusesToSend, WritesRound, sumcheck_by};
-ghost use Rattle.p3_sumcheck.specs.Sumchecks.{sumcheck_steps};
+ghost use Rattle.std.specs.Prelude.{◌≡◌, ◌≤◌, ◌^◌, ℕ, ◌∷◌, [], length, IfErr, IfOk};
+ghost use Rattle.p3_challenger.specs.Drivers.{proving_of};
+ghost use Rattle.p3_sumcheck.specs.Results.{NamesUnwrittenRound, PlaysRoundsNext, WritesTrueRounds};
+ghost use Rattle.p3_sumcheck.specs.Sumchecks.{RefusesToSend, WritesRound};
 
+use crate::Sums;
 use crate::table::{fold, sums_of_halves};
 use p3_challenger::CanObserve;
-use p3_challenger::fs::{Codec, Declared, ProverState, TranscriptError, Unit};
+use p3_challenger::fs::{Codec, ProverState, TranscriptError, Unit};
 use p3_field::ScalarField;
 use p3_symmetric::DigestHasher;
 use std::alloc::Global;
@@ -34,20 +35,14 @@ pub fn prove<
 ) -> Result<(Vec<F>, F), TranscriptError>
     requires size { (n : ℕ) × (length table.items ≡ 2 ^ n) }
     requires secure { 128 ≤ Cdc.SECURITY_BITS }
-    // The true pairs are written, and the table's value at the point is answered.
-    ensures ok { let m = sumcheck_by F.residues ⟦<F as Declared<F, D>>⟧.algebra Cdc.Codec in
-        IfOk result (λ sent. Proves m table.items sent.0.items sent.1
-        (proving_of C.state prover.old) (proving_of C.state prover.new)) }
-    ensures err { let m = sumcheck_by F.residues ⟦<F as Declared<F, D>>⟧.algebra Cdc.Codec in
-        IfErr result (λ e. RefusesToProve m table.items (proving_of C.state prover.old) e
-        (proving_of C.state prover.new)) }
-    // Where the rounds are next they are played, and the prover then stands after them; or the
-    // challenger alone refuses, or memory is out.
-    ensures only { let steps = sumcheck_steps ⟦<F as Declared<F, D>>⟧.algebra in
-        let before = (proving_of C.state prover.old).transcript.playing in
-        (n : ℕ) → length table.items ≡ 2 ^ n → AreNext (steps n) before → MatchResult result
-        (λ sent. (length sent.0.items ≡ n) × ((proving_of C.state prover.new).transcript.playing
-        ≡ steps_on (steps n) before)) IsOwnRefusal }
+    // The true pairs are written, and the table's value at the point is returned.
+    ensures ok { WritesTrueRounds ⟦<F as Sums<F, C, D, Cdc>>⟧.sumcheck table.items
+        (proving_of C.state prover.old) result (proving_of C.state prover.new) }
+    ensures err { NamesUnwrittenRound ⟦<F as Sums<F, C, D, Cdc>>⟧.sumcheck table.items
+        (proving_of C.state prover.old) result (proving_of C.state prover.new) }
+    // Where the rounds are next they are played, or the challenger alone or memory refuses.
+    ensures only { PlaysRoundsNext ⟦<F as Sums<F, C, D, Cdc>>⟧.sumcheck table.items
+        (proving_of C.state prover.old) result (proving_of C.state prover.new) }
 {
     let mut point = Vec::new(alloc);
     let mut pair = sums_of_halves(&table);
@@ -68,13 +63,11 @@ fn send_round<
     Cdc: Codec<C, F>,
 >(prover: &mut ProverState<C, U, D>, pair: (F, F)) -> Result<F, TranscriptError>
     requires { 128 ≤ Cdc.SECURITY_BITS }
-    ensures ok { let m = sumcheck_by F.residues ⟦<F as Declared<F, D>>⟧.algebra Cdc.Codec in
-        IfOk result (λ x. WritesRound m (proving_of C.state prover.old)
-        (record { first = pair.0; second = pair.1; challenge = x })
+    ensures ok { IfOk result (λ x. WritesRound ⟦<F as Sums<F, C, D, Cdc>>⟧.sumcheck
+        (proving_of C.state prover.old) (record { first = pair.0; second = pair.1; challenge = x })
         (proving_of C.state prover.new)) }
-    ensures err { let m = sumcheck_by F.residues ⟦<F as Declared<F, D>>⟧.algebra Cdc.Codec in
-        IfErr result (λ e. RefusesToSend m (pair.0 ∷ pair.1 ∷ []) (proving_of C.state prover.old) e
-        (proving_of C.state prover.new)) }
+    ensures err { IfErr result (λ e. RefusesToSend ⟦<F as Sums<F, C, D, Cdc>>⟧.sumcheck
+        (pair.0 ∷ pair.1 ∷ []) (proving_of C.state prover.old) e (proving_of C.state prover.new)) }
 {
     prover.add_scalars::<F, Cdc>("round", &[pair.0, pair.1])?;
     let challenge = prover.challenge_scalar::<F, Cdc>("fold")?;

@@ -1,6 +1,7 @@
 -- A value, a byte string and a second value, absorbed one after another.
-use Rattle.std.specs.{Prelude.{ℕ, List, ◌++◌}, List.flat_map}
+use Rattle.std.specs.{Prelude.{◌≡◌, ℕ, List, ◌++◌, length}, List.flat_map}
 use Rattle.p3_challenger.specs.{Sponge.IsFed, Observation.LeavesFed, ChallengerError.ChallengerError}
+use Rattle.p3_challenger.specs.Reading.{AreBytes}
 use Rattle.p3_challenger.specs.ChallengerError.TheVariants.{OutOfMemory, TooLong}
 
 -- the symbols of a byte string, by its items in an alphabet
@@ -18,3 +19,10 @@ abbrev pub RefusesInTurn : {S Symbol : Type 0} →
 RefusesInTurn fed IsTooLong of_first symbols OutOfMemory s t = LeavesFed fed s symbols t
 RefusesInTurn fed IsTooLong of_first symbols TooLong s t = IsTooLong × IsFed fed s of_first t
 RefusesInTurn fed IsTooLong of_first symbols _ s t = ⊥
+
+-- Equal symbols of two such absorptions, with anything after them, come from equal values and byte strings, where these
+-- have one length, and so what follows is equal too.
+abbrev pub BindThree : {T Symbol : Type 0} → (ℕ → Type 0) → (T → List ℕ → T → List Symbol) → Type 0
+BindThree {T} {Symbol} IsTooLong symbols = (p q v w : T) (a b : List ℕ) (x y : List Symbol) → AreBytes a → AreBytes b →
+    (IsTooLong (length a) → ⊥) → (IsTooLong (length b) → ⊥) → length a ≡ length b →
+    symbols p a v ++ x ≡ symbols q b w ++ y → (p ≡ q) × (a ≡ b) × (v ≡ w) × (x ≡ y)

@@ -1,7 +1,7 @@
 -- A Merkle opening: a leaf with its salt, and the siblings on the path to the root.
 use Rattle.std.specs.Prelude.{◌≡◌, ℕ, ◌==◌, ◌/◌, ◌%◌, ◌≤◌, List, [], ◌∷◌, ◌++◌, Some, length, if◌then◌else◌}
 use Rattle.std.specs.List.{concat}
-use Rattle.p3_challenger.specs.Sampling.{Sampling}
+use Rattle.p3_challenger.specs.{Driving.Driving, Sampling.Sampling}
 use Rattle.p3_field.specs.BabyBearResidues.{BabyBear, residues}
 
 module _ (digest : List ℕ → List ℕ) where
@@ -57,3 +57,9 @@ pub record IsOpened {S : Type 0} (digest : List ℕ → List ℕ) (d : Sampling 
   pub here : S
   pub drawn : IsDrawnPlace d place (observed s root) here
   pub challenger : t ≡ observed (observed here (length leaf ∷ leaf)) salt
+
+-- a driver reads an opened leaf at a place
+abbrev pub ReadsOpened : {S : Type 0} → (List ℕ → S → ℕ → List ℕ → List ℕ → S → Type 0) → Driving S → ℕ → List ℕ →
+    Driving S → Type 0
+ReadsOpened IsOpenedBy before place leaf after =
+    IsOpenedBy before.bytes before.transcript.challenger place leaf after.bytes after.transcript.challenger

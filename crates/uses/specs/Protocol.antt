@@ -4,7 +4,9 @@ use Rattle.std.specs.Prelude.{Result, MatchResult}
 use Rattle.p3_challenger.specs.{Encoding.Encoding, Kind.{Kind, TheVariants.{Challenge, Hint, Message}}, Length.Length}
 use Rattle.p3_challenger.specs.{Length.TheVariants.{Fixed, Scalar}, Observation.Observation, Rejecting.taken}
 use Rattle.p3_challenger.specs.{Sampling.Sampling, Steps.{Step, algebra_of, algebra_step}, Driving.Driving}
-use Rattle.p3_challenger.specs.{Transcripts.bytes_step, TranscriptError.{TranscriptError, TheVariants.OutOfMemory}}
+use Rattle.p3_challenger.specs.{TranscriptError.{TranscriptError, TheVariants.OutOfMemory}, Reading.AreBytes}
+use Rattle.p3_challenger.specs.{Transcripts.{IsNext, Transcript, bytes_step, step_on}, Sha256Hasher.Sha256Hasher}
+use Rattle.p3_challenger.specs.DomainSeparator.{DomainSeparator}
 use Rattle.p3_field.specs.{BabyBearResidues.{BabyBear, residues}, Residues.{sum_of, product_of, power_of}}
 use Rattle.uses.specs.declared.protocol.Claim.{Claim}
 
@@ -97,3 +99,58 @@ pub record IsPast {S : Type 0} (before : Driving S) (rest : List ℕ) (after : D
   pub position : after.transcript.playing.position ≡ 5
   pub going : after.transcript.playing.finished ≡ false
   pub unread : after.bytes ≡ rest
+
+-- ---- the two sides
+
+-- What both sides share: how an element is observed, drawn as a place or as a divisor, and encoded; the digest of the
+-- field's identity; and the challenger's state after the seed of a separator.
+pub record LineRules (S Symbol : Type 0) : Type 1 where
+  pub observation : Observation S Symbol BabyBear
+  pub places : Sampling S BabyBear
+  pub divisors : Sampling S BabyBear
+  pub encoding : Encoding BabyBear
+  pub digest : List ℕ
+  pub seeded : DomainSeparator ℕ Sha256Hasher → S
+
+module _ {S Symbol : Type 0} (line : LineRules S Symbol) where
+  -- a claim is that of a run under a separator, of which the bytes are the proof
+  abbrev pub IsRunUnder : DomainSeparator ℕ Sha256Hasher → List ℕ → Claim → Type 0
+  IsRunUnder separator bytes claim =
+      IsRun line.observation line.places line.divisors line.encoding (line.seeded separator) claim bytes
+
+  -- the bytes are a proof of a line from this state
+  abbrev pub IsProofFrom : S → BabyBear → BabyBear → List ℕ → Type 0
+  IsProofFrom s slope offset bytes =
+      IsSent line.observation line.places line.divisors line.encoding s slope offset bytes
+
+  -- a prover adds a proof of the line
+  abbrev pub SendsLine : BabyBear → BabyBear → Driving S → Driving S → Type 0
+  SendsLine slope offset before after = (bytes : List ℕ) × (after.bytes ≡ before.bytes ++ bytes)
+      × IsProofFrom before.transcript.challenger slope offset bytes
+
+  -- the claim's place is drawn after the challenger has observed its line
+  abbrev pub DrawsPlace : Driving S → Claim → Type 0
+  DrawsPlace before claim =
+      line.places.sampled (after_line line.observation before.transcript.challenger claim) ≡ Some claim.place
+
+  -- and its divisor after the place
+  abbrev pub DrawsDivisor : Driving S → Claim → Type 0
+  DrawsDivisor before claim = IsDivisor line.divisors
+      (line.places.after (after_line line.observation before.transcript.challenger claim)) claim.divisor
+
+  -- the claim is read: where bytes are left, they begin with its own, and the others are left then
+  abbrev pub ReadsClaim : Driving S → Driving S → Claim → Type 0
+  ReadsClaim before after claim = AreBytes before.bytes → before.bytes ≡ bytes_of line.encoding claim ++ after.bytes
+
+  -- a verifier with a run ahead reads its claim, and is past it then, or is out of memory
+  abbrev pub ReadsRunAhead : Driving S → Result Claim TranscriptError → Driving S → Type 0
+  ReadsRunAhead before result after = (claim : Claim) (rest : List ℕ) →
+      IsAhead line.observation line.places line.divisors line.encoding line.digest before claim rest →
+      MatchResult result (λ found. (found ≡ claim) × IsPast before rest after) (λ e. e ≡ OutOfMemory)
+
+  -- a side with a divisor ahead draws it, and plays the step then, or is out of memory
+  abbrev pub DrawsDivisorAhead : Transcript S → Result BabyBear TranscriptError → Transcript S → Type 0
+  DrawsDivisorAhead before result after = (divisor : BabyBear) →
+      IsNext before.playing (element_step line.digest Challenge (codes "divisor") (Fixed 1)) →
+      IsDivisor line.divisors before.challenger divisor → MatchResult result
+      (λ found. (found ≡ divisor) × (after.playing ≡ step_on before.playing)) (λ e. e ≡ OutOfMemory)

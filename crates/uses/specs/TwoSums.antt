@@ -1,11 +1,13 @@
 -- Two sumchecks in one transcript, each after its sum.
-use Rattle.std.specs.Prelude.{◌≡◌, ◌<◌, ℕ, List, [], ◌∷◌, ◌++◌, false, codes}
+use Rattle.std.specs.Prelude.{◌≡◌, ◌<◌, ◌^◌, ℕ, List, [], ◌∷◌, ◌++◌, false, codes, length, Result, MatchResult}
 use Rattle.p3_challenger.specs.{Steps.{NamedAlgebra, algebra_step, Step}, Driving.Driving, Kind.TheVariants.Message}
 use Rattle.p3_challenger.specs.{Length.TheVariants.Scalar, Meanings.sent, PatternSteps.PatternSteps, Playing.IsPlayed}
-use Rattle.p3_challenger.specs.{Proving.Writes, Rounds.steps_of_rounds, Transcripts.{Meaning, PlaysStep}}
-use Rattle.p3_challenger.specs.Verifying.{EndsReading}
-use Rattle.p3_sumcheck.specs.Sumchecks.{IsNoPatternFault, Accepts, Proves, Sumcheck, challenges_of, round_steps}
-use Rattle.p3_sumcheck.specs.{declared.{error.SumcheckError.SumcheckError, round.Round.Round}, Tables.total}
+use Rattle.p3_challenger.specs.{Proving.Writes, Rounds.steps_of_rounds, Verifying.EndsReading, Recording.Recording}
+use Rattle.p3_challenger.specs.Transcripts.{AreNext, Meaning, PlaysStep, steps_on}
+use Rattle.p3_challenger.specs.{PatternGrammar.IsViable, TranscriptError.{TranscriptError, TheVariants.OutOfMemory}}
+use Rattle.p3_sumcheck.specs.Sumchecks.{IsMemory, IsNoPatternFault, Accepts, Proves, Sumcheck, challenges_of}
+use Rattle.p3_sumcheck.specs.{Sumchecks.round_steps, Tables.total}
+use Rattle.p3_sumcheck.specs.declared.{error.SumcheckError.SumcheckError, round.Round.Round}
 use Rattle.uses.specs.declared.two_sums.Reduced.{Reduced}
 use Rattle.p3_sumcheck.specs.declared.error.SumcheckError.TheVariants as fault
 
@@ -18,6 +20,18 @@ steps_of_sum field n = sum_step field ∷ steps_of_rounds (round_steps field) n
 
 abbrev pub steps_of_two : NamedAlgebra → ℕ → List Step
 steps_of_two field n = steps_of_sum field n ++ steps_of_sum field n
+
+-- A recorder that has refused none yet, and with whose steps and these some pattern begins, has refused none then, or
+-- is out of memory.
+abbrev pub RecordsViable : {R : Type 0} → List Step → Recording → Result R TranscriptError → Recording → Type 0
+RecordsViable steps before result after = before.finished ≡ false → IsViable (before.steps ++ steps) →
+    MatchResult result (λ _. after.finished ≡ false) (λ e. e ≡ OutOfMemory)
+
+-- Where these steps are next they are played, and the driver then stands after them, or one of them is refused with
+-- such a fault.
+abbrev pub PlaysNext : {S R E : Type 0} → List Step → (E → Type 0) → Driving S → Result R E → Driving S → Type 0
+PlaysNext steps IsFault before result after = AreNext steps before.transcript.playing → MatchResult result
+    (λ _. after.transcript.playing ≡ steps_on steps before.transcript.playing) IsFault
 
 -- a prover before its first step
 abbrev pub begun : {S : Type 0} → S → PatternSteps → Driving S
@@ -99,6 +113,28 @@ module _ {S Symbol F : Type 0} (m : Sumcheck S Symbol F) where
     pub end : Driving S
     pub reads : ReadsTwo n one other (with_bytes (begun challenger pattern) proof) end
     pub ends : EndsReading end
+
+  -- ---- the verifier's side, for what was sent
+
+  -- a sum that was sent of a table, with whatever follows it, is read, or memory is out
+  abbrev pub ReadsSentSum : ℕ → Driving S → Result (Reduced F) SumcheckError → Driving S → Type 0
+  ReadsSentSum n before result after = (table : List F) (start end : Driving S) (sent rest : List ℕ) →
+      length table ≡ 2 ^ n → (it : SendsSum table start end) → end.bytes ≡ start.bytes ++ sent →
+      before ≡ with_bytes start (sent ++ rest) →
+      MatchResult result (λ read. IsReduced table it read × (after ≡ with_bytes end rest)) IsMemory
+
+  -- two sums that were sent of tables are read, and no byte is left, or memory is out
+  abbrev pub ReadsSentTwo : ℕ → Driving S → Result (Reduced F × Reduced F) SumcheckError → Driving S → Type 0
+  ReadsSentTwo n before result after = (first second : List F) (start end : Driving S) (sent : List ℕ) →
+      length first ≡ 2 ^ n → length second ≡ 2 ^ n → (it : SendsTwo first second start end) →
+      end.bytes ≡ start.bytes ++ sent → before ≡ with_bytes start sent → MatchResult result
+      (λ read. AreReduced first second it read.0 read.1 × (after ≡ with_bytes end [])) IsMemory
+
+  -- a proof of both sums of two tables is accepted, or memory is out
+  abbrev pub AcceptsProofOfTwo : ℕ → S → PatternSteps → List ℕ → Result (Reduced F × Reduced F) SumcheckError → Type 0
+  AcceptsProofOfTwo n challenger pattern proof result = (first second : List F) → length first ≡ 2 ^ n →
+      length second ≡ 2 ^ n → (it : ProvesTwo first second challenger pattern proof) →
+      MatchResult result (λ read. AreReduced first second it.sends read.0 read.1) IsMemory
 
 -- Sumchecks of n rounds whose steps are next are refused for one of these reasons. A round's pair does not add up
 -- to its claim, the proof has another shape, or the challenger or memory is refused.

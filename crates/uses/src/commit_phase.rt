@@ -4,9 +4,10 @@
 //! Merkle caps are observed one after another, and a challenge in an extension is drawn after each. A proof of work
 //! follows, and then distinct indices are drawn as uniform bits. [`prove`] and [`verify`] differ in one call, and have
 //! one contract: their results are drawn from what was observed, in this order.
-ghost use Rattle.std.specs.Prelude.{◌≡◌, ◌≤◌, true, IfOk, IfSome, OnOk};
+ghost use Rattle.std.specs.Prelude.{◌≡◌, ◌≤◌, List, true, IfOk, IfSome, OnOk};
 ghost use Rattle.p3_challenger.specs.{Checks.{all_zero, check_of}, Sampling.in_row};
 ghost use Rattle.uses.specs.CommitPhase.{AreDrawnInTurn, AreQueries, IsCommitPhase, kept_with};
+ghost use Rattle.uses.specs.declared.commit_phase.{Challenges.Challenges, Demands.Demands};
 
 use p3_challenger::{
     CanObserve, CanSampleUniformBits, ChallengerError, FieldChallenger, GrindingChallenger,
@@ -35,6 +36,29 @@ pub struct Challenges<EF> {
     pub queries: Vec<usize>,
 }
 
+/// A commit phase, as contracts see it. Every challenger of the calls below implements this trait, so no function needs
+/// the bound.
+pub trait CommitPhase<EF, Cap>: GrindingChallenger {
+    // After each cap its challenge is drawn. Then the witness passes, and the queries are drawn.
+    ghost is_phase: { Demands → List Cap → Self.Witness → Challenges EF → Self.State → Self.State → Type 0 };
+}
+
+impl<
+    EF: BasedVectorSpace<C::Witness>,
+    Cap: Copy,
+    C: GrindingChallenger
+        + FieldChallenger<C::Witness>
+        + CanObserve<Cap>
+        + CanSampleUniformBits<C::Witness>,
+> CommitPhase<EF, Cap> for C {
+    ghost is_phase = { λ demands caps witness challenges. IsCommitPhase
+        (AreDrawnInTurn ⟦<C as CanObserve<Cap>>⟧.observation.observed (in_row C.sampling EF.DIMENSION)
+        EF.coefficients caps challenges.folds.items)
+        (check_of C.before_witness ⟦<C as CanObserve<C::Witness>>⟧.observation
+        (all_zero (C.bits_sampling demands.work_bits)) demands.work_bits witness)
+        (AreQueries (C.uniform true demands.index_bits).draw demands.queries challenges.queries.items) };
+}
+
 /// Observes the caps of a prover, and searches for its witness. A cap is the value observed in a round, usually a
 /// `&MerkleCap`. The number of roots in a cap is not absorbed with the cap. So the protocol has to fix that number, or
 /// the caller has to observe it first: caps of different lengths are no prefix code.
@@ -58,12 +82,7 @@ pub fn prove<
 ) -> Result<(C::Witness, Challenges<EF>), UniformBitsError>
     requires work { demands.work_bits ≤ C.most_bits }
     requires index { demands.index_bits ≤ C.most_bits }
-    ensures { IfOk result (λ sent. IsCommitPhase
-        (AreDrawnInTurn ⟦<C as CanObserve<Cap>>⟧.observation.observed (in_row C.sampling EF.DIMENSION)
-        EF.coefficients caps.now sent.1.folds.items)
-        (check_of C.before_witness ⟦<C as CanObserve<C::Witness>>⟧.observation
-        (all_zero (C.bits_sampling demands.work_bits)) demands.work_bits sent.0)
-        (AreQueries (C.uniform true demands.index_bits).draw demands.queries sent.1.queries.items)
+    ensures { IfOk result (λ sent. ⟦<C as CommitPhase<EF, Cap>>⟧.is_phase demands caps.now sent.0 sent.1
         (C.state challenger.old) (C.state challenger.new)) }
 {
     let folds = fold_challenges::<C::Witness, EF, Cap, C>(alloc, challenger, caps)?;
@@ -94,13 +113,8 @@ pub fn verify<
 ) -> Result<Option<Challenges<EF>>, UniformBitsError>
     requires work { demands.work_bits ≤ C.most_bits }
     requires index { demands.index_bits ≤ C.most_bits }
-    ensures { IfOk result (λ found. IfSome found (λ challenges. IsCommitPhase
-        (AreDrawnInTurn ⟦<C as CanObserve<Cap>>⟧.observation.observed (in_row C.sampling EF.DIMENSION)
-        EF.coefficients caps.now challenges.folds.items)
-        (check_of C.before_witness ⟦<C as CanObserve<C::Witness>>⟧.observation
-        (all_zero (C.bits_sampling demands.work_bits)) demands.work_bits witness)
-        (AreQueries (C.uniform true demands.index_bits).draw demands.queries challenges.queries.items)
-        (C.state challenger.old) (C.state challenger.new))) }
+    ensures { IfOk result (λ found. IfSome found (λ challenges. ⟦<C as CommitPhase<EF, Cap>>⟧.is_phase demands caps.now
+        witness challenges (C.state challenger.old) (C.state challenger.new))) }
 {
     let folds = fold_challenges::<C::Witness, EF, Cap, C>(alloc, challenger, caps)?;
     if !challenger.check_witness(demands.work_bits, witness)? {

@@ -25,12 +25,9 @@ pub fn send_after<F: ScalarField, T, U, C: CanObserve<T> + Drop, D: DigestHasher
     label: Label,
     value: &F,
 ) -> Result<TranscriptBound<F>, TranscriptError>
-    ensures { let before = proving_of C.state prover.old in
-        let step = ⟦<F as Declared<F, D>>⟧.step Kind.Message label.now Length.Scalar in
-        IfOk result (λ bound. Writes (meaning.sent step Cdc.observation Cdc.encoding value.now)
-        (record { transcript = after_value C.observation extra before.transcript; bytes = before.bytes })
-        (bound_value bound)
-        (proving_of C.state prover.new)) }
+    ensures { let step = ⟦<F as Declared<F, D>>⟧.step Kind.Message label.now Length.Scalar in IfOk result (λ bound.
+        Writes (meaning.sent step Cdc.observation Cdc.encoding value.now) (after_value C.observation extra
+        (proving_of C.state prover.old)) (bound_value bound) (proving_of C.state prover.new)) }
 {
     prover.challenger_mut().observe(extra)?;
     prover.add_scalar::<F, Cdc>(label, value)
@@ -52,12 +49,9 @@ pub fn receive_after<
     extra: T,
     label: Label,
 ) -> Result<TranscriptBound<F>, TranscriptError>
-    ensures { let before = verifying_of C.state verifier.old in
-        let step = ⟦<F as Declared<F, D>>⟧.step Kind.Message label.now Length.Scalar in
-        IfOk result (λ bound. Receives (reads.received step Cdc.observation Cdc.encoding)
-        (record { transcript = after_value C.observation extra before.transcript; bytes = before.bytes })
-        (bound_value bound)
-        (verifying_of C.state verifier.new)) }
+    ensures { let step = ⟦<F as Declared<F, D>>⟧.step Kind.Message label.now Length.Scalar in IfOk result (λ bound.
+        Receives (reads.received step Cdc.observation Cdc.encoding) (after_value C.observation extra
+        (verifying_of C.state verifier.old)) (bound_value bound) (verifying_of C.state verifier.new)) }
 {
     verifier.challenger_mut().observe(extra)?;
     verifier.next_scalar::<F, Cdc>(label)

@@ -35,12 +35,14 @@ mod pair;
 pub mod protocol;
 pub mod read_back;
 mod round;
+mod seeded;
 mod three_calls;
 pub mod two_sums;
 
-pub use bound_values::{absorb_values, symbols_bind_values};
+pub use bound_values::{Absorbs, absorb_values, symbols_bind_values};
 pub use extra_value::{receive_after, send_after};
 pub use lists::{receive_list, receive_pair};
 pub use pair::send_pair;
 pub use round::{Round, first_challenge, receive_and_draw, send_and_draw};
+pub use seeded::Seeded;
 pub use three_calls::observe_and_draw;

@@ -20,9 +20,8 @@ pub fn receive_pair<F: ScalarField, U, C: Sponge + Drop, D: DigestHasher, Cdc: C
     label: Label,
 ) -> Result<(F, F), TranscriptError>
     ensures { let step = ⟦<F as Declared<F, D>>⟧.step Kind.Message label.now (Length.Fixed 2) in
-        ReceivesOrRefuses (reads.received_list step Cdc.observation Cdc.encoding 2)
-        (verifying_of C.state verifier.old) (λ pair. pair.0 ∷ pair.1 ∷ []) result
-        (verifying_of C.state verifier.new) }
+        ReceivesOrRefuses (reads.received_list step Cdc.observation Cdc.encoding 2) (verifying_of C.state verifier.old)
+        (λ pair. pair.0 ∷ pair.1 ∷ []) result (verifying_of C.state verifier.new) }
 {
     let pair = verifier.next_scalars::<F, Cdc>(label, 2)?;
     Ok((pair[0].into_inner(), pair[1].into_inner()))

@@ -5,10 +5,12 @@
 //! path to the root are hints: they only have to give the root, which was observed before the place was drawn. The
 //! contract of [`verify`] says that they do, and that the proof is exactly these bytes. It also says that every later
 //! draw depends on the leaf and the salt. The leaf is borrowed from the proof itself.
-ghost use Rattle.std.specs.Prelude.{◌≡◌, ◌<◌, ◌↔◌, ◌++◌, [], ◌∷◌, IsTrue, IfOk, IfSome, OnOk};
-ghost use Rattle.p3_challenger.specs.{HashCalls.with_pending, HashState.observed, Observation.observed_all};
-ghost use Rattle.p3_challenger.specs.{SeparatorSeed.seed_of_separator, Drivers.verifying_of};
-ghost use Rattle.uses.specs.MerkleOpening.{IsClimb, IsDrawnPlace, IsOpened, above, leaf_node_of, parent_of};
+ghost use Rattle.std.specs.Prelude.{◌≡◌, ◌<◌, ◌↔◌, ◌++◌, ℕ, List, [], ◌∷◌, IsTrue, IfOk, IfSome, OnOk};
+ghost use Rattle.p3_challenger.specs.{DomainSeparator.DomainSeparator, Drivers.verifying_of, HashCalls.with_pending};
+ghost use Rattle.p3_challenger.specs.{HashState.observed, Observation.observed_all, Sha256Hasher.Sha256Hasher};
+ghost use Rattle.p3_challenger.specs.SeparatorSeed.{seed_of_separator};
+ghost use Rattle.uses.specs.MerkleOpening.{IsClimb, IsDrawnPlace, IsOpened, ReadsOpened, above, leaf_node_of};
+ghost use Rattle.uses.specs.MerkleOpening.{parent_of};
 
 use p3_challenger::fs::{
     BytesToFieldCodec, Codec, DomainSeparator, ExtensionFieldCodec, Hierarchy, Interaction,
@@ -46,6 +48,26 @@ type Prover = ProverState<Challenger, u8, Sha256Hasher>;
 type Verifier<'a> = VerifierState<'a, Challenger, u8, Sha256Hasher>;
 
 type Node = [u8; 32];
+
+/// The view of contracts on the protocol, at its types.
+pub trait Opening: Sponge {
+    // The state of a challenger after the seed of a separator.
+    ghost seeded: { DomainSeparator ℕ Sha256Hasher → Self.State };
+
+    // The bytes have a leaf at a place that is in the tree, and others are left; a challenger goes from one state to
+    // another.
+    ghost is_opened: { List ℕ → Self.State → ℕ → List ℕ → List ℕ → Self.State → Type 0 };
+}
+
+impl Opening for Challenger {
+    ghost seeded = { λ separator. record {
+      sponge = with_pending (seed_of_separator ⟦<Sha256Hasher as DigestHasher>⟧.digest_of separator);
+      hasher = record {};
+    } };
+
+    ghost is_opened = { IsOpened ⟦<Sha256Hasher as DigestHasher>⟧.digest_of
+        ⟦<Coefficient as Codec<Challenger, BabyBear>>⟧.sampling (observed_all observed) };
+}
 
 /// A leaf of the prover's tree.
 #[derive(Clone, Copy)]
@@ -136,11 +158,8 @@ pub fn verify<'a>(
     separator: &Separator,
     proof: &'a [u8],
 ) -> Result<Option<Opened<'a>>, TranscriptError>
-    ensures { let digest = ⟦<Sha256Hasher as DigestHasher>⟧.digest_of in
-        let seed = seed_of_separator digest separator.now in
-        IfOk result (λ found. IfSome found (λ opened. IsOpened digest
-        ⟦<Coefficient as Codec<Challenger, BabyBear>>⟧.sampling (observed_all observed) proof.now
-        (record { sponge = with_pending seed; hasher = record {} }) opened.place opened.bytes.now []
+    ensures { IfOk result (λ found. IfSome found (λ opened. ⟦<Challenger as Opening>⟧.is_opened proof.now
+        (⟦<Challenger as Opening>⟧.seeded separator.now) opened.place opened.bytes.now []
         (⟦<Challenger as Sponge>⟧.state opened.challenger))) }
 {
     let mut verifier = Verifier::new(alloc, challenger(alloc), separator, proof)?;
@@ -159,11 +178,9 @@ pub fn verify<'a>(
 }
 
 fn receive<'a>(verifier: &mut Verifier<'a>, alloc: Global) -> Result<Read<'a>, TranscriptError>
-    ensures { let before = verifying_of ⟦<Challenger as Sponge>⟧.state verifier.old in
-        let after = verifying_of ⟦<Challenger as Sponge>⟧.state verifier.new in
-        IfOk result (λ leaf. IsTrue leaf.in_tree → IsOpened ⟦<Sha256Hasher as DigestHasher>⟧.digest_of
-        ⟦<Coefficient as Codec<Challenger, BabyBear>>⟧.sampling (observed_all observed) before.bytes
-        before.transcript.challenger leaf.place leaf.bytes.now after.bytes after.transcript.challenger) }
+    ensures { IfOk result (λ leaf. IsTrue leaf.in_tree → ReadsOpened ⟦<Challenger as Opening>⟧.is_opened
+        (verifying_of ⟦<Challenger as Sponge>⟧.state verifier.old) leaf.place leaf.bytes.now
+        (verifying_of ⟦<Challenger as Sponge>⟧.state verifier.new)) }
 {
     let root = verifier.next_bytes("root", 32)?;
     let place = draw_place(verifier)?;

@@ -23,10 +23,9 @@ pub fn send_pair<F: ScalarField, U, C: Sponge + Drop, D: DigestHasher, Cdc: Code
     first: F,
     second: F,
 ) -> Result<Vec<TranscriptBound<F>>, TranscriptError>
-    ensures { let algebra = algebra_of F.residues.order 1 (D.digest_of F.identity) F.name_bytes in
-        let step = algebra_step Kind.Message label.now algebra (Length.Fixed 2) in
-        WritesOrRefuses (meaning.sent_list step Cdc.observation Cdc.encoding (first ∷ second ∷ []))
-        (proving_of C.state prover.old) bound_values result (proving_of C.state prover.new) }
+    ensures { let algebra = algebra_of F.residues.order 1 (D.digest_of F.identity) F.name_bytes in WritesOrRefuses
+        (meaning.sent_list (algebra_step Kind.Message label.now algebra (Length.Fixed 2)) Cdc.observation Cdc.encoding
+        (first ∷ second ∷ [])) (proving_of C.state prover.old) bound_values result (proving_of C.state prover.new) }
 {
     prover.add_scalars::<F, Cdc>(label, &[first, second])
 }

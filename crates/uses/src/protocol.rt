@@ -4,14 +4,12 @@
 //! value at the place, divided by the divisor. That number is a hint: it is not absorbed, no challenge depends on
 //! it, and the verifier checks it directly. The place and the divisor have to depend on the line. The contract of
 //! [`verify`] says that they do, and which bytes the proof is.
-ghost use Rattle.std.specs.Prelude.{◌≡◌, ◌+◌, ◌++◌, ℕ, List, [], Some, codes, length, IfOk, OnOk, MatchResult};
-ghost use Rattle.p3_challenger.specs.{HashCalls.with_pending, Drivers.{proving_of, verifying_of}, Reading.AreBytes};
-ghost use Rattle.p3_challenger.specs.{SeparatorSeed.{pattern_of, seed_of_separator}, Transcripts.{IsNext, step_on}};
-ghost use Rattle.p3_challenger.specs.{DomainSeparator.DomainSeparator, Steps.Step};
-ghost use Rattle.uses.specs.Protocol.{AcceptsRuns, AnswersRun, IsAhead, IsDivisor, IsPast, IsRun, IsSent, after_line};
-ghost use Rattle.uses.specs.Protocol.{bytes_of, element_step, may_divide, steps_of_line};
-ghost use Rattle.uses.specs.declared.protocol.Claim.{Claim};
-ghost use Rattle.p3_field.specs.BabyBearResidues as baby_bear;
+ghost use Rattle.std.specs.Prelude.{◌≡◌, ◌+◌, ◌++◌, ℕ, [], length, IfOk, OnOk};
+ghost use Rattle.p3_challenger.specs.{HashCalls.with_pending, HashState.HashState, Sha256Hasher.Sha256Hasher};
+ghost use Rattle.p3_challenger.specs.{Drivers.{proving_of, verifying_of}, SeparatorSeed.{pattern_of, seed_of_separator}};
+ghost use Rattle.uses.specs.Protocol.{AcceptsRuns, AnswersRun, DrawsDivisor, DrawsDivisorAhead, DrawsPlace, IsDivisor};
+ghost use Rattle.uses.specs.Protocol.{IsProofFrom, IsRunUnder, LineRules, ReadsClaim, ReadsRunAhead, SendsLine};
+ghost use Rattle.uses.specs.Protocol.{may_divide, steps_of_line};
 
 use p3_challenger::fs::{
     BytesToFieldCodec, Codec, DomainSeparator, ExtensionFieldCodec, Hierarchy, Interaction,
@@ -58,23 +56,22 @@ pub struct Claim {
 
 /// The view of contracts on the protocol, at its types.
 pub trait Line {
-    // Its steps.
-    ghost steps: { List Step };
-
-    // A claim is that of a run under a separator, of which the bytes are the proof.
-    ghost is_run: { {U D : Type 0} → DomainSeparator U D → List ℕ → Claim → Type 0 };
+    // What its two sides share.
+    ghost rules: { LineRules (HashState ℕ Sha256Hasher) ℕ };
 }
 
 impl Line for Claim {
-    ghost steps = { steps_of_line (⟦<Sha256Hasher as DigestHasher>⟧.digest_of
-        ⟦<BabyBear as AlgebraIdentity<BabyBear>>⟧.identity) };
-
-    ghost is_run = { λ separator proof claim.
-        let scalars = ⟦<Scalars as Codec<Challenger, BabyBear>>⟧ in
-        let seed = seed_of_separator ⟦<Sha256Hasher as DigestHasher>⟧.digest_of separator in
-        IsRun scalars.observation scalars.sampling
-        ⟦<Coefficient as Codec<Challenger, BabyBear>>⟧.sampling scalars.encoding
-        (record { sponge = with_pending seed; hasher = record {} }) claim proof };
+    ghost rules = { record {
+      observation = ⟦<Scalars as Codec<Challenger, BabyBear>>⟧.observation;
+      places = ⟦<Scalars as Codec<Challenger, BabyBear>>⟧.sampling;
+      divisors = ⟦<Coefficient as Codec<Challenger, BabyBear>>⟧.sampling;
+      encoding = ⟦<Scalars as Codec<Challenger, BabyBear>>⟧.encoding;
+      digest = ⟦<Sha256Hasher as DigestHasher>⟧.digest_of ⟦<BabyBear as AlgebraIdentity<BabyBear>>⟧.identity;
+      seeded = λ separator. record {
+        sponge = with_pending (seed_of_separator ⟦<Sha256Hasher as DigestHasher>⟧.digest_of separator);
+        hasher = record {};
+      };
+    } };
 }
 
 /// Sends the line, and returns the bytes of the proof. The only error in practice is out of memory.
@@ -84,11 +81,8 @@ pub fn prove(
     slope: BabyBear,
     offset: BabyBear,
 ) -> Result<Vec<u8>, TranscriptError>
-    ensures { let seed = seed_of_separator ⟦<Sha256Hasher as DigestHasher>⟧.digest_of separator.now in
-        let scalars = ⟦<Scalars as Codec<Challenger, BabyBear>>⟧ in
-        IfOk result (λ proof. IsSent scalars.observation scalars.sampling
-        ⟦<Coefficient as Codec<Challenger, BabyBear>>⟧.sampling scalars.encoding
-        (record { sponge = with_pending seed; hasher = record {} }) slope offset proof.items) }
+    ensures { let line = ⟦<Claim as Line>⟧.rules in
+        IfOk result (λ proof. IsProofFrom line (line.seeded separator.now) slope offset proof.items) }
 {
     let mut prover = Prover::new(alloc, challenger(alloc), separator)?;
     let sent = send(&mut prover, alloc, slope, offset);
@@ -102,13 +96,9 @@ fn send(
     slope: BabyBear,
     offset: BabyBear,
 ) -> Result<(), TranscriptError>
-    ensures { let before = proving_of ⟦<Challenger as Sponge>⟧.state prover.old in
-        let after = proving_of ⟦<Challenger as Sponge>⟧.state prover.new in
-        let scalars = ⟦<Scalars as Codec<Challenger, BabyBear>>⟧ in
-        OnOk result ((bytes : List ℕ) × (after.bytes ≡ before.bytes ++ bytes)
-        × IsSent scalars.observation scalars.sampling
-        ⟦<Coefficient as Codec<Challenger, BabyBear>>⟧.sampling scalars.encoding
-        before.transcript.challenger slope offset bytes) }
+    ensures { OnOk result (SendsLine ⟦<Claim as Line>⟧.rules slope offset
+        (proving_of ⟦<Challenger as Sponge>⟧.state prover.old)
+        (proving_of ⟦<Challenger as Sponge>⟧.state prover.new)) }
 {
     prover.add_scalar::<BabyBear, Scalars>("slope", &slope)?;
     prover.add_scalar::<BabyBear, Scalars>("offset", &offset)?;
@@ -132,9 +122,9 @@ pub fn verify(
     proof: &[u8],
 ) -> Result<Option<Claim>, TranscriptError>
     ensures length { OnOk result (length proof.now ≡ 12) }
-    ensures run { IfOk result (AnswersRun (⟦<Claim as Line>⟧.is_run separator.now proof.now)) }
-    ensures accepted { (pattern_of separator.now).steps ≡ ⟦<Claim as Line>⟧.steps →
-        AcceptsRuns (⟦<Claim as Line>⟧.is_run separator.now proof.now) result }
+    ensures run { IfOk result (AnswersRun (IsRunUnder ⟦<Claim as Line>⟧.rules separator.now proof.now)) }
+    ensures accepted { (pattern_of separator.now).steps ≡ steps_of_line ⟦<Claim as Line>⟧.rules.digest →
+        AcceptsRuns (IsRunUnder ⟦<Claim as Line>⟧.rules separator.now proof.now) result }
 {
     let mut verifier = Verifier::new(alloc, challenger(alloc), separator, proof)?;
     let received = receive(&mut verifier);
@@ -147,32 +137,18 @@ pub fn verify(
 }
 
 fn receive(verifier: &mut Verifier<'_>) -> Result<Claim, TranscriptError>
-    ensures place { let before = verifying_of ⟦<Challenger as Sponge>⟧.state verifier.old in
-        let scalars = ⟦<Scalars as Codec<Challenger, BabyBear>>⟧ in
-        IfOk result (λ claim. scalars.sampling.sampled
-        (after_line scalars.observation before.transcript.challenger claim) ≡ Some claim.place) }
-    ensures divisor { let before = verifying_of ⟦<Challenger as Sponge>⟧.state verifier.old in
-        let scalars = ⟦<Scalars as Codec<Challenger, BabyBear>>⟧ in
-        IfOk result (λ claim. IsDivisor ⟦<Coefficient as Codec<Challenger, BabyBear>>⟧.sampling
-        (scalars.sampling.after
-        (after_line scalars.observation before.transcript.challenger claim)) claim.divisor) }
-    ensures read { let before = verifying_of ⟦<Challenger as Sponge>⟧.state verifier.old in
-        let after = verifying_of ⟦<Challenger as Sponge>⟧.state verifier.new in
-        IfOk result (λ claim. AreBytes before.bytes →
-        before.bytes ≡ bytes_of ⟦<Scalars as Codec<Challenger, BabyBear>>⟧.encoding claim ++ after.bytes) }
-    ensures length { let before = verifying_of ⟦<Challenger as Sponge>⟧.state verifier.old in
-        let after = verifying_of ⟦<Challenger as Sponge>⟧.state verifier.new in
-        OnOk result (length before.bytes ≡ 12 + length after.bytes) }
-    ensures accepted { let before = verifying_of ⟦<Challenger as Sponge>⟧.state verifier.old in
-        let after = verifying_of ⟦<Challenger as Sponge>⟧.state verifier.new in
-        let identity = ⟦<BabyBear as AlgebraIdentity<BabyBear>>⟧.identity in
-        let digest = ⟦<Sha256Hasher as DigestHasher>⟧.digest_of identity in
-        let scalars = ⟦<Scalars as Codec<Challenger, BabyBear>>⟧ in
-        (claim : Claim) (rest : List ℕ) → IsAhead scalars.observation scalars.sampling
-        ⟦<Coefficient as Codec<Challenger, BabyBear>>⟧.sampling scalars.encoding
-        digest before claim rest →
-        MatchResult result (λ found. (found ≡ claim) × IsPast before rest after)
-        (λ e. e ≡ TranscriptError.OutOfMemory) }
+    ensures place { IfOk result (DrawsPlace ⟦<Claim as Line>⟧.rules
+        (verifying_of ⟦<Challenger as Sponge>⟧.state verifier.old)) }
+    ensures divisor { IfOk result (DrawsDivisor ⟦<Claim as Line>⟧.rules
+        (verifying_of ⟦<Challenger as Sponge>⟧.state verifier.old)) }
+    ensures read { IfOk result (ReadsClaim ⟦<Claim as Line>⟧.rules
+        (verifying_of ⟦<Challenger as Sponge>⟧.state verifier.old)
+        (verifying_of ⟦<Challenger as Sponge>⟧.state verifier.new)) }
+    ensures length { OnOk result (length (verifying_of ⟦<Challenger as Sponge>⟧.state verifier.old).bytes
+        ≡ 12 + length (verifying_of ⟦<Challenger as Sponge>⟧.state verifier.new).bytes) }
+    ensures accepted { ReadsRunAhead ⟦<Claim as Line>⟧.rules
+        (verifying_of ⟦<Challenger as Sponge>⟧.state verifier.old) result
+        (verifying_of ⟦<Challenger as Sponge>⟧.state verifier.new) }
 {
     // Laws, which do nothing: where a prover has sent a value or a hint, or drawn, memory alone can be refused.
     sent_value_is_received::<BabyBear, Challenger, Scalars>();
@@ -198,18 +174,10 @@ fn receive(verifier: &mut Verifier<'_>) -> Result<Claim, TranscriptError>
 fn draw_divisor<S: SymmetricSteps<Challenger = Challenger, Digest = Sha256Hasher>>(
     side: &mut S,
 ) -> Result<BabyBear, TranscriptError>
-    ensures drawn { IfOk result (IsDivisor ⟦<Coefficient as Codec<Challenger, BabyBear>>⟧.sampling
-        (S.transcript side.old).challenger) }
+    ensures drawn { IfOk result (IsDivisor ⟦<Claim as Line>⟧.rules.divisors (S.transcript side.old).challenger) }
     ensures bytes { OnOk result (S.bytes side.new ≡ S.bytes side.old) }
-    ensures accepted { let before = S.transcript side.old in
-        let identity = ⟦<BabyBear as AlgebraIdentity<BabyBear>>⟧.identity in
-        let digest = ⟦<Sha256Hasher as DigestHasher>⟧.digest_of identity in
-        (divisor : baby_bear.BabyBear) →
-        IsNext before.playing (element_step digest Kind.Challenge (codes "divisor") (Length.Fixed 1)) →
-        IsDivisor ⟦<Coefficient as Codec<Challenger, BabyBear>>⟧.sampling before.challenger divisor →
-        MatchResult result
-        (λ found. (found ≡ divisor) × ((S.transcript side.new).playing ≡ step_on before.playing))
-        (λ e. e ≡ TranscriptError.OutOfMemory) }
+    ensures accepted { DrawsDivisorAhead ⟦<Claim as Line>⟧.rules (S.transcript side.old) result
+        (S.transcript side.new) }
 {
     // A law, which does nothing: where one side has drawn it, memory alone can be refused to the other.
     only_memory_refuses_drawn_values::<BabyBear, Challenger, Coefficient>();
@@ -233,7 +201,7 @@ fn challenger(alloc: Global) -> Challenger
 ///
 /// The only error in practice is out of memory.
 pub fn separator(alloc: Global) -> Result<Separator, TranscriptError>
-    ensures { IfOk result (λ separator. (pattern_of separator).steps ≡ ⟦<Claim as Line>⟧.steps) }
+    ensures { IfOk result (λ made. (pattern_of made).steps ≡ steps_of_line ⟦<Claim as Line>⟧.rules.digest) }
 {
     let mut recorder = PatternState::<u8>::new(alloc);
     let recorded = record(&mut recorder);
@@ -243,7 +211,7 @@ pub fn separator(alloc: Global) -> Result<Separator, TranscriptError>
 
 // The steps in order. Each names its value's type, so that a proof of one type is not read as another.
 fn record(recorder: &mut PatternState<u8>) -> Result<(), TranscriptError>
-    ensures { OnOk result (recorder.new.steps ≡ recorder.old.steps ++ ⟦<Claim as Line>⟧.steps) }
+    ensures { OnOk result (recorder.new.steps ≡ recorder.old.steps ++ steps_of_line ⟦<Claim as Line>⟧.rules.digest) }
 {
     let leaf = Hierarchy::Atomic;
     let slope = Interaction::algebra::<BabyBear, BabyBear, Sha256Hasher>(

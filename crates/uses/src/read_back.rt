@@ -14,10 +14,10 @@
 //!
 //! draw 9                        draw 9
 //! ```
-ghost use Rattle.std.specs.Prelude.{◌≡◌, ◌<◌, ◌≤◌, ◌++◌, List};
+ghost use Rattle.std.specs.Prelude.{◌≡◌, ◌<◌, ◌≤◌};
 ghost use Rattle.p3_challenger.specs.{Segments.run_calls, HashCalls.with_pending, HashState.function_of};
 ghost use Rattle.p3_challenger.specs.DuplexCalls.{duplex_by_calls, fresh};
-ghost use Rattle.uses.specs.TwoRounds.{two_rounds};
+ghost use Rattle.uses.specs.TwoRounds.{RoundsReadBack};
 ghost use Rattle.p3_field.specs.BabyBearResidues as baby_bear;
 ghost use Rattle.p3_challenger.specs.HashReadBack as hash;
 ghost use Rattle.p3_challenger.specs.DuplexReadBack as duplex;
@@ -65,17 +65,12 @@ pub fn begin_with_zeros<P: CryptographicPermutation<[BabyBear; 16]>>(
     draw_limit: u64,
 ) -> DuplexChallenger<BabyBear, P, 16, 8>
     requires { 1 ≤ draw_limit }
-    ensures starts { result ≡ record {
-      sponge = fresh baby_bear.residues 16;
-      permutation = permutation;
-      draw_limit = draw_limit;
-    } }
+    ensures starts { result ≡ record
+        { sponge = fresh baby_bear.residues 16; permutation = permutation; draw_limit = draw_limit } }
     ensures tells { duplex.ReadsBack baby_bear.residues (P.permutation permutation) 8 result.sponge }
     ensures or_collides { duplex.ReadsBackOrCollides baby_bear.residues (P.permutation permutation) 8 result.sponge }
-    ensures rounds { (a b c d : List baby_bear.BabyBear) →
-        let run = run_calls (duplex_by_calls baby_bear.residues (P.permutation permutation) 8) result.sponge in
-        (run (two_rounds a b)).queries ≡ (run (two_rounds c d)).queries
-        → (run (two_rounds a b)).after.pending ≡ (run (two_rounds c d)).after.pending → a ++ b ≡ c ++ d }
+    ensures rounds { RoundsReadBack
+        (run_calls (duplex_by_calls baby_bear.residues (P.permutation permutation) 8) result.sponge) }
 {
     DuplexChallenger::new(permutation, draw_limit)
 }

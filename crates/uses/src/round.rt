@@ -3,11 +3,11 @@
 //! [`send_and_draw`] is the prover's side, and [`receive_and_draw`] the verifier's. Their contracts say that the drawn
 //! scalar depends on exactly the symbols of the sent one. The code knows nothing of the challenger and the codec. The
 //! contracts of the drivers' steps and three laws suffice, and a body calls each law for its clause.
-ghost use Rattle.std.specs.Prelude.{◌≡◌, ◌≤◌, ◌++◌, Some, flat_map, IfOk, OnErr};
+ghost use Rattle.std.specs.Prelude.{◌≡◌, ◌≤◌, ◌++◌, IfOk, OnErr};
 ghost use Rattle.p3_challenger.specs.{Bound.bound_value, Drivers.{proving_of, verifying_of}, Dependence.DrawsAfter};
-ghost use Rattle.p3_challenger.specs.SeparatorSeed.{seed_of_separator};
-ghost use Rattle.uses.specs.SentAndDrawn.{DrawnAfter, LeavesRound};
+ghost use Rattle.uses.specs.SentAndDrawn.{DrawnAfter, LeavesRound, ObservesAndDraws};
 
+use crate::Seeded;
 use p3_challenger::CanObserve;
 use p3_challenger::fs::{
     Codec, DomainSeparator, ProverState, TranscriptBound, TranscriptError, Unit, VerifierState,
@@ -37,10 +37,8 @@ pub fn send_and_draw<
     ensures drawn { IfOk result (λ x. DrawsAfter C.fed Cdc.sampling (Cdc.observation.symbols value.now) (bound_value x)
         (proving_of C.state prover.old).transcript.challenger (proving_of C.state prover.new).transcript.challenger) }
     // The two steps, by what the codec observes and draws.
-    ensures steps { IfOk result (λ x. let here = Cdc.observation.observed
-        (proving_of C.state prover.old).transcript.challenger value.now in
-        (Cdc.sampling.sampled here ≡ Some (bound_value x))
-        × ((proving_of C.state prover.new).transcript.challenger ≡ Cdc.sampling.after here)) }
+    ensures steps { IfOk result (λ x. ObservesAndDraws Cdc.observation Cdc.sampling value.now (bound_value x)
+        (proving_of C.state prover.old).transcript.challenger (proving_of C.state prover.new).transcript.challenger) }
     ensures err { OnErr result (LeavesRound C.fed C.next (Cdc.observation.symbols value.now)
         (proving_of C.state prover.old).transcript.challenger (proving_of C.state prover.new).transcript.challenger) }
 {
@@ -108,10 +106,8 @@ pub fn first_challenge<
 ) -> Result<TranscriptBound<F>, TranscriptError>
     requires alphabet { U.is_alphabet }
     requires secure { 128 ≤ Cdc.SECURITY_BITS }
-    ensures { let seed = seed_of_separator D.digest_of separator.now in
-        IfOk result (λ x. DrawnAfter C.fed Cdc.sampling
-        (flat_map C.observation.symbols (U.items seed) ++ Cdc.observation.symbols value.now) (bound_value x)
-        (C.state challenger)) }
+    ensures { IfOk result (λ x. DrawnAfter C.fed Cdc.sampling (⟦<C as Seeded<U, D>>⟧.seed_symbols separator.now
+        ++ Cdc.observation.symbols value.now) (bound_value x) (C.state challenger)) }
 {
     bytes_feed_their_symbols::<U, C>();
     values_feed_their_symbols::<F, C, Cdc>();

@@ -16,14 +16,12 @@ pub fn observe_and_draw<A, B, X: Drop, C: CanObserve<A> + CanObserve<B> + CanSam
     first: A,
     rest: &[B],
 ) -> Result<X, ChallengerError>
-    ensures drawn { IfOk result (λ x. DrawsAfter C.fed C.sampling
-        (⟦<C as CanObserve<A>>⟧.observation.symbols first
+    ensures drawn { IfOk result (λ x. DrawsAfter C.fed C.sampling (⟦<C as CanObserve<A>>⟧.observation.symbols first
         ++ flat_map ⟦<C as CanObserve<B>>⟧.observation.symbols rest.now)
         x (C.state challenger.old) (C.state challenger.new)) }
     ensures err { IfErr result (λ e. RefusesThreeCalls C.fed C.next C.sampling
-        (⟦<C as CanObserve<A>>⟧.observation.symbols first
-        ++ flat_map ⟦<C as CanObserve<B>>⟧.observation.symbols rest.now)
-        e (C.state challenger.old) (C.state challenger.new)) }
+        (⟦<C as CanObserve<A>>⟧.observation.symbols first ++ flat_map ⟦<C as CanObserve<B>>⟧.observation.symbols
+        rest.now) e (C.state challenger.old) (C.state challenger.new)) }
 {
     challenger.observe(first)?;
     challenger.observe_slice(rest)?;

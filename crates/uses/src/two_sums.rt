@@ -3,15 +3,15 @@
 //! A prover has two tables of `2^n` values. It sends the sum of the first, and plays its rounds. Then it does the same
 //! for the second, whose challenges depend on everything sent before. Whoever has the tables checks at the end that
 //! each has the last value at its point.
-ghost use Rattle.std.specs.Prelude.{◌≡◌, ◌≤◌, ◌^◌, ◌++◌, [], ℕ, List, false, length, IfErr, IfOk, MatchResult, OnOk};
-ghost use Rattle.p3_challenger.specs.{Completeness.IsOwnRefusal, Driving.Driving, Drivers.{proving_of, verifying_of}};
-ghost use Rattle.p3_challenger.specs.{Observation.observed_all, PatternGrammar.IsViable, PatternSteps.steps_of};
-ghost use Rattle.p3_challenger.specs.{SeparatorSeed.{pattern_of, seed_of_separator}, Transcripts.{AreNext, steps_on}};
+ghost use Rattle.std.specs.Prelude.{◌≡◌, ◌≤◌, ◌^◌, ◌++◌, ℕ, length, IfErr, IfOk, OnOk};
+ghost use Rattle.p3_challenger.specs.{Completeness.IsOwnRefusal, Drivers.{proving_of, verifying_of}};
+ghost use Rattle.p3_challenger.specs.{PatternSteps.steps_of, SeparatorSeed.pattern_of};
 ghost use Rattle.p3_challenger.specs.TranscriptError.TheVariants.{OutOfMemory};
-ghost use Rattle.p3_sumcheck.specs.Sumchecks.{IsMemory, sumcheck_of};
-ghost use Rattle.uses.specs.TwoSums.{AcceptsTwo, AreReduced, IsReduced, ProvesTwo, ReadsSum, ReadsTwo, SendsSum};
-ghost use Rattle.uses.specs.TwoSums.{SendsTwo, IsSumcheckFault, steps_of_sum, steps_of_two, with_bytes};
+ghost use Rattle.uses.specs.TwoSums.{AcceptsProofOfTwo, AcceptsTwo, IsSumcheckFault, PlaysNext, ProvesTwo};
+ghost use Rattle.uses.specs.TwoSums.{ReadsSentSum, ReadsSentTwo, ReadsSum, ReadsTwo, RecordsViable, SendsSum};
+ghost use Rattle.uses.specs.TwoSums.{SendsTwo, steps_of_sum, steps_of_two};
 
+use crate::Seeded;
 use p3_challenger::CanObserve;
 use p3_challenger::fs::{
     Codec, Declared, DomainSeparator, Hierarchy, Interaction, InteractionPattern, Kind, Length,
@@ -21,7 +21,7 @@ use p3_challenger::laws::completeness::sent_value_is_received;
 use p3_challenger::laws::encodings::read_values_are_encoded;
 use p3_challenger::laws::memory::only_memory_refuses_sent_values;
 use p3_field::ScalarField;
-use p3_sumcheck::{SumcheckError, declare, prove, sum, verify};
+use p3_sumcheck::{SumcheckError, Sums, declare, prove, sum, verify};
 use p3_symmetric::DigestHasher;
 use std::alloc::Global;
 
@@ -57,9 +57,8 @@ fn record_two<F: ScalarField, U, D: DigestHasher>(
 ) -> Result<(), TranscriptError>
     ensures steps { OnOk result (recorder.new.steps
         ≡ recorder.old.steps ++ steps_of_two ⟦<F as Declared<F, D>>⟧.algebra rounds) }
-    ensures only { let steps = steps_of_two ⟦<F as Declared<F, D>>⟧.algebra rounds in
-        recorder.old.finished ≡ false → IsViable (recorder.old.steps ++ steps) →
-        MatchResult result (λ _. recorder.new.finished ≡ false) (λ e. e ≡ OutOfMemory) }
+    ensures only { RecordsViable (steps_of_two ⟦<F as Declared<F, D>>⟧.algebra rounds)
+        recorder.old result recorder.new }
 {
     record_sum::<F, U, D>(recorder, rounds)?;
     record_sum::<F, U, D>(recorder, rounds)
@@ -71,9 +70,8 @@ fn record_sum<F: ScalarField, U, D: DigestHasher>(
 ) -> Result<(), TranscriptError>
     ensures steps { OnOk result (recorder.new.steps
         ≡ recorder.old.steps ++ steps_of_sum ⟦<F as Declared<F, D>>⟧.algebra rounds) }
-    ensures only { let steps = steps_of_sum ⟦<F as Declared<F, D>>⟧.algebra rounds in
-        recorder.old.finished ≡ false → IsViable (recorder.old.steps ++ steps) →
-        MatchResult result (λ _. recorder.new.finished ≡ false) (λ e. e ≡ OutOfMemory) }
+    ensures only { RecordsViable (steps_of_sum ⟦<F as Declared<F, D>>⟧.algebra rounds)
+        recorder.old result recorder.new }
 {
     let leaf = Hierarchy::Atomic;
     let sum = Interaction::algebra::<F, F, D>(leaf, Kind::Message, "sum", Length::Scalar);
@@ -104,15 +102,10 @@ pub fn prove_two<
     requires second { (n : ℕ) × (length second.items ≡ 2 ^ n) }
     requires alphabet { U.is_alphabet }
     requires secure { 128 ≤ Cdc.SECURITY_BITS }
-    ensures sent { let m = sumcheck_of F.residues ⟦<F as Declared<F, D>>⟧.algebra Cdc.observation
-        Cdc.sampling Cdc.encoding in
-        let s = observed_all C.observation.observed (C.state challenger)
-        (U.items (seed_of_separator D.digest_of separator.now)) in
-        IfOk result (λ proof. ProvesTwo m first.items second.items s (pattern_of separator.now)
-        proof.items) }
-    ensures only { let steps = steps_of_two ⟦<F as Declared<F, D>>⟧.algebra in
-        (n : ℕ) → length first.items ≡ 2 ^ n → length second.items ≡ 2 ^ n →
-        (pattern_of separator.now).steps ≡ steps n → IfErr result IsOwnRefusal }
+    ensures sent { IfOk result (λ proof. ProvesTwo ⟦<F as Sums<F, C, D, Cdc>>⟧.sumcheck first.items second.items
+        (⟦<C as Seeded<U, D>>⟧.seeded challenger separator.now) (pattern_of separator.now) proof.items) }
+    ensures only { (n : ℕ) → length first.items ≡ 2 ^ n → length second.items ≡ 2 ^ n → (pattern_of separator.now).steps
+        ≡ steps_of_two ⟦<F as Declared<F, D>>⟧.algebra n → IfErr result IsOwnRefusal }
 {
     let mut prover = ProverState::new(alloc, challenger, separator)?;
     let sent = send_two::<F, U, C, D, Cdc>(alloc, first, second, &mut prover);
@@ -135,16 +128,11 @@ fn send_two<
     requires first { (n : ℕ) × (length first.items ≡ 2 ^ n) }
     requires second { (n : ℕ) × (length second.items ≡ 2 ^ n) }
     requires secure { 128 ≤ Cdc.SECURITY_BITS }
-    ensures sent { let m = sumcheck_of F.residues ⟦<F as Declared<F, D>>⟧.algebra Cdc.observation
-        Cdc.sampling Cdc.encoding in
-        OnOk result (SendsTwo m first.items second.items (proving_of C.state prover.old)
-        (proving_of C.state prover.new)) }
-    ensures only { let steps = steps_of_two ⟦<F as Declared<F, D>>⟧.algebra in
-        let before = (proving_of C.state prover.old).transcript.playing in
-        (n : ℕ) → length first.items ≡ 2 ^ n → length second.items ≡ 2 ^ n →
-        AreNext (steps n) before → MatchResult result
-        (λ _. (proving_of C.state prover.new).transcript.playing ≡ steps_on (steps n) before)
-        IsOwnRefusal }
+    ensures sent { OnOk result (SendsTwo ⟦<F as Sums<F, C, D, Cdc>>⟧.sumcheck first.items second.items
+        (proving_of C.state prover.old) (proving_of C.state prover.new)) }
+    ensures only { (n : ℕ) → length first.items ≡ 2 ^ n → length second.items ≡ 2 ^ n →
+        PlaysNext (steps_of_two ⟦<F as Declared<F, D>>⟧.algebra n) IsOwnRefusal
+        (proving_of C.state prover.old) result (proving_of C.state prover.new) }
 {
     send_sum::<F, U, C, D, Cdc>(alloc, first, prover)?;
     send_sum::<F, U, C, D, Cdc>(alloc, second, prover)
@@ -160,15 +148,10 @@ fn send_sum<
 >(alloc: Global, table: Vec<F>, prover: &mut ProverState<C, U, D>) -> Result<(), TranscriptError>
     requires size { (n : ℕ) × (length table.items ≡ 2 ^ n) }
     requires secure { 128 ≤ Cdc.SECURITY_BITS }
-    ensures sent { let m = sumcheck_of F.residues ⟦<F as Declared<F, D>>⟧.algebra Cdc.observation
-        Cdc.sampling Cdc.encoding in
-        OnOk result (SendsSum m table.items (proving_of C.state prover.old)
-        (proving_of C.state prover.new)) }
-    ensures only { let steps = steps_of_sum ⟦<F as Declared<F, D>>⟧.algebra in
-        let before = (proving_of C.state prover.old).transcript.playing in
-        (n : ℕ) → length table.items ≡ 2 ^ n → AreNext (steps n) before → MatchResult result
-        (λ _. (proving_of C.state prover.new).transcript.playing ≡ steps_on (steps n) before)
-        IsOwnRefusal }
+    ensures sent { OnOk result (SendsSum ⟦<F as Sums<F, C, D, Cdc>>⟧.sumcheck table.items
+        (proving_of C.state prover.old) (proving_of C.state prover.new)) }
+    ensures only { (n : ℕ) → length table.items ≡ 2 ^ n → PlaysNext (steps_of_sum ⟦<F as Declared<F, D>>⟧.algebra n)
+        IsOwnRefusal (proving_of C.state prover.old) result (proving_of C.state prover.new) }
 {
     let claim = sum(&table);
     prover.add_scalar::<F, Cdc>("sum", &claim)?;
@@ -203,21 +186,13 @@ pub fn verify_two<
 ) -> Result<(Reduced<F>, Reduced<F>), SumcheckError>
     requires alphabet { U.is_alphabet }
     requires secure { 128 ≤ Cdc.SECURITY_BITS }
-    ensures accepts { let m = sumcheck_of F.residues ⟦<F as Declared<F, D>>⟧.algebra Cdc.observation
-        Cdc.sampling Cdc.encoding in
-        let s = observed_all C.observation.observed (C.state challenger)
-        (U.items (seed_of_separator D.digest_of separator.now)) in
-        IfOk result (λ read. AcceptsTwo m rounds read.0 read.1 s (pattern_of separator.now) proof.now) }
+    ensures accepts { IfOk result (λ read. AcceptsTwo ⟦<F as Sums<F, C, D, Cdc>>⟧.sumcheck rounds read.0 read.1
+        (⟦<C as Seeded<U, D>>⟧.seeded challenger separator.now) (pattern_of separator.now) proof.now) }
     ensures only { (pattern_of separator.now).steps ≡ steps_of_two ⟦<F as Declared<F, D>>⟧.algebra rounds →
         IfErr result (IsSumcheckFault rounds) }
-    ensures complete { let m = sumcheck_of F.residues ⟦<F as Declared<F, D>>⟧.algebra Cdc.observation
-        Cdc.sampling Cdc.encoding in
-        let s = observed_all C.observation.observed (C.state challenger)
-        (U.items (seed_of_separator D.digest_of separator.now)) in
-        (first second : List F) → length first ≡ 2 ^ rounds → length second ≡ 2 ^ rounds →
-        (U.is_too_long (length (seed_of_separator D.digest_of separator.now)) → ⊥) →
-        (it : ProvesTwo m first second s (pattern_of separator.now) proof.now) →
-        MatchResult result (λ read. AreReduced m first second it.sends read.0 read.1) IsMemory }
+    ensures complete { ⟦<C as Seeded<U, D>>⟧.fits separator.now →
+        AcceptsProofOfTwo ⟦<F as Sums<F, C, D, Cdc>>⟧.sumcheck rounds
+        (⟦<C as Seeded<U, D>>⟧.seeded challenger separator.now) (pattern_of separator.now) proof.now result }
 {
     let mut verifier = VerifierState::new(alloc, challenger, separator, proof)?;
     let received = receive_two::<F, U, C, D, Cdc>(alloc, rounds, &mut verifier);
@@ -240,24 +215,12 @@ fn receive_two<
     verifier: &mut VerifierState<'_, C, U, D>,
 ) -> Result<(Reduced<F>, Reduced<F>), SumcheckError>
     requires { 128 ≤ Cdc.SECURITY_BITS }
-    ensures accepts { let m = sumcheck_of F.residues ⟦<F as Declared<F, D>>⟧.algebra Cdc.observation
-        Cdc.sampling Cdc.encoding in
-        let before = verifying_of C.state verifier.old in
-        let after = verifying_of C.state verifier.new in
-        IfOk result (λ read. ReadsTwo m rounds read.0 read.1 before after) }
-    ensures only { let steps = steps_of_two ⟦<F as Declared<F, D>>⟧.algebra in
-        let before = (verifying_of C.state verifier.old).transcript.playing in
-        AreNext (steps rounds) before → MatchResult result
-        (λ _. (verifying_of C.state verifier.new).transcript.playing ≡ steps_on (steps rounds) before)
-        (IsSumcheckFault rounds) }
-    ensures complete { let m = sumcheck_of F.residues ⟦<F as Declared<F, D>>⟧.algebra Cdc.observation
-        Cdc.sampling Cdc.encoding in
-        (first second : List F) (before after : Driving C.State) (sent : List ℕ) →
-        length first ≡ 2 ^ rounds → length second ≡ 2 ^ rounds →
-        (it : SendsTwo m first second before after) → after.bytes ≡ before.bytes ++ sent →
-        verifying_of C.state verifier.old ≡ with_bytes before sent →
-        MatchResult result (λ read. AreReduced m first second it read.0 read.1
-        × (verifying_of C.state verifier.new ≡ with_bytes after [])) IsMemory }
+    ensures accepts { IfOk result (λ read. ReadsTwo ⟦<F as Sums<F, C, D, Cdc>>⟧.sumcheck rounds read.0 read.1
+        (verifying_of C.state verifier.old) (verifying_of C.state verifier.new)) }
+    ensures only { PlaysNext (steps_of_two ⟦<F as Declared<F, D>>⟧.algebra rounds) (IsSumcheckFault rounds)
+        (verifying_of C.state verifier.old) result (verifying_of C.state verifier.new) }
+    ensures complete { ReadsSentTwo ⟦<F as Sums<F, C, D, Cdc>>⟧.sumcheck rounds
+        (verifying_of C.state verifier.old) result (verifying_of C.state verifier.new) }
 {
     let first = receive_sum::<F, U, C, D, Cdc>(alloc, rounds, verifier)?;
     let second = receive_sum::<F, U, C, D, Cdc>(alloc, rounds, verifier)?;
@@ -277,24 +240,12 @@ fn receive_sum<
     verifier: &mut VerifierState<'_, C, U, D>,
 ) -> Result<Reduced<F>, SumcheckError>
     requires { 128 ≤ Cdc.SECURITY_BITS }
-    ensures accepts { let m = sumcheck_of F.residues ⟦<F as Declared<F, D>>⟧.algebra Cdc.observation
-        Cdc.sampling Cdc.encoding in
-        let before = verifying_of C.state verifier.old in
-        let after = verifying_of C.state verifier.new in
-        IfOk result (λ read. ReadsSum m rounds read before after) }
-    ensures only { let steps = steps_of_sum ⟦<F as Declared<F, D>>⟧.algebra in
-        let before = (verifying_of C.state verifier.old).transcript.playing in
-        AreNext (steps rounds) before → MatchResult result
-        (λ _. (verifying_of C.state verifier.new).transcript.playing ≡ steps_on (steps rounds) before)
-        (IsSumcheckFault rounds) }
-    ensures complete { let m = sumcheck_of F.residues ⟦<F as Declared<F, D>>⟧.algebra Cdc.observation
-        Cdc.sampling Cdc.encoding in
-        (table : List F) (before after : Driving C.State) (sent rest : List ℕ) →
-        length table ≡ 2 ^ rounds → (it : SendsSum m table before after) →
-        after.bytes ≡ before.bytes ++ sent →
-        verifying_of C.state verifier.old ≡ with_bytes before (sent ++ rest) →
-        MatchResult result (λ read. IsReduced m table it read
-        × (verifying_of C.state verifier.new ≡ with_bytes after rest)) IsMemory }
+    ensures accepts { IfOk result (λ read. ReadsSum ⟦<F as Sums<F, C, D, Cdc>>⟧.sumcheck rounds read
+        (verifying_of C.state verifier.old) (verifying_of C.state verifier.new)) }
+    ensures only { PlaysNext (steps_of_sum ⟦<F as Declared<F, D>>⟧.algebra rounds) (IsSumcheckFault rounds)
+        (verifying_of C.state verifier.old) result (verifying_of C.state verifier.new) }
+    ensures complete { ReadsSentSum ⟦<F as Sums<F, C, D, Cdc>>⟧.sumcheck rounds
+        (verifying_of C.state verifier.old) result (verifying_of C.state verifier.new) }
 {
     // Laws, which do nothing: what is read of bytes is encoded so; and a sum that was sent is received, or memory is out.
     read_values_are_encoded::<F, U, C, Cdc>();

@@ -1,4 +1,4 @@
-use Rattle.p3_sumcheck.proofs.Sums.{total-more}
+use Rattle.p3_sumcheck.proofs.TableSums.{total-more}
 use Rattle.p3_sumcheck.proofs.table.sum.Goals as goal
 
 pub loop-value-preserved : goal.loop-value-preserved

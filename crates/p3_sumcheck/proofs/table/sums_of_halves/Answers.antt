@@ -1,5 +1,5 @@
 use Rattle.std.proofs.Common.{ap, ◌∙◌}
-use Rattle.p3_sumcheck.{specs.Tables.total, proofs.Sums.total-parts}
+use Rattle.p3_sumcheck.{specs.Tables.total, proofs.TableSums.total-parts}
 use Rattle.p3_sumcheck.proofs.table.sums_of_halves.Goals as goal
 
 pub returns-clause-second : goal.returns-clause-second

@@ -1,5 +1,5 @@
 use Rattle.std.proofs.Common.{arith}
-use Rattle.p3_sumcheck.proofs.Sums.{total-more}
+use Rattle.p3_sumcheck.proofs.TableSums.{total-more}
 use Rattle.p3_sumcheck.proofs.table.sums_of_two.Goals as goal
 
 pub loop-i-preserved : goal.loop-i-preserved

@@ -55,7 +55,7 @@ returns-in_err-end-clause-only g c has =
     rw (p.1, p.2) (end-fault end _ played c.in_err-end.ensures.err)
 
 pub returns-clause-complete : goal.returns-clause-complete
-returns-clause-complete g c first second first_size second_size short it =
+returns-clause-complete g c short first second first_size second_size it =
     let m = sumcheck_of g.F.PrimeCharacteristicRing.residues (algebra_of g.F.PrimeCharacteristicRing.residues.order
     g.F.BasedVectorSpace.DIMENSION (g.D.DigestHasher.digest_of g.F.AlgebraIdentity.identity) g.F.Named.name_bytes)
     g.Cdc.Codec.observation g.Cdc.Codec.sampling g.Cdc.Codec.encoding in
@@ -66,12 +66,12 @@ returns-clause-complete g c first second first_size second_size short it =
     (sym it.written) c.in_ok-verifier.ensures.ok).0
 
 pub returns-in_err-verifier-clause-complete : goal.returns-in_err-verifier-clause-complete
-returns-in_err-verifier-clause-complete g c first second first_size second_size short it =
+returns-in_err-verifier-clause-complete g c short first second first_size second_size it =
     let p = err_from_is_err_and c.from_residual.result c.from_residual.ensures.1 in
     rw (p.1, p.2) (ap Transcript (start-memory _ _ short c.in_err-verifier.ensures.err))
 
 pub returns-in_err-read-clause-complete : goal.returns-in_err-read-clause-complete
-returns-in_err-read-clause-complete g c first second first_size second_size short it =
+returns-in_err-read-clause-complete g c short first second first_size second_size it =
     let m = sumcheck_of g.F.PrimeCharacteristicRing.residues (algebra_of g.F.PrimeCharacteristicRing.residues.order
     g.F.BasedVectorSpace.DIMENSION (g.D.DigestHasher.digest_of g.F.AlgebraIdentity.identity) g.F.Named.name_bytes)
     g.Cdc.Codec.observation g.Cdc.Codec.sampling g.Cdc.Codec.encoding in
@@ -84,7 +84,7 @@ returns-in_err-read-clause-complete g c first second first_size second_size shor
     (sym it.written) c.in_ok-verifier.ensures.ok)
 
 pub returns-in_err-end-clause-complete : goal.returns-in_err-end-clause-complete
-returns-in_err-end-clause-complete g c first second first_size second_size short it =
+returns-in_err-end-clause-complete g c short first second first_size second_size it =
     let m = sumcheck_of g.F.PrimeCharacteristicRing.residues (algebra_of g.F.PrimeCharacteristicRing.residues.order
     g.F.BasedVectorSpace.DIMENSION (g.D.DigestHasher.digest_of g.F.AlgebraIdentity.identity) g.F.Named.name_bytes)
     g.Cdc.Codec.observation g.Cdc.Codec.sampling g.Cdc.Codec.encoding in
