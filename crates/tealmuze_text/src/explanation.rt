@@ -1,5 +1,6 @@
 // What became of a proof, as it is shown.
 use crate::json::{Object, ToJson, list, optional};
+use crate::line::{Cut, LABEL_BYTES};
 use crate::refusal::RefusalShown;
 use crate::shown::Shown;
 use crate::table::{COLUMNS, Line, layout};
@@ -108,10 +109,14 @@ impl ExplainedShown<'_> {
 }
 
 fn line_of(alloc: Global, row: &StepShown<'_>) -> Result<Line> {
+    let label = Cut {
+        text: row.label,
+        most: LABEL_BYTES,
+    };
     Ok([
         text(alloc, &row.step)?,
         text(alloc, &row.kind)?,
-        text(alloc, &row.label)?,
+        text(alloc, &label)?,
         text(alloc, &row.offset)?,
         text(alloc, &row.read)?,
         text_or_none(alloc, &row.value)?,
