@@ -8,6 +8,7 @@ use script_lines::world::World;
 use std::alloc::Global;
 use tealmuze_text::entry::Entry;
 use tealmuze_text::labels::label;
+use tealmuze_text::numbers::check_tokens;
 use tealmuze_text::steps::keys_of;
 use toml::Value;
 
@@ -90,7 +91,9 @@ fn step_of_value<S: World>(
             Ok(Step::ObserveExtension { label, value })
         }
         _ => {
-            let value = S::opaque(alloc, value.as_str().context("expected a text")?)?;
+            let text = value.as_str().context("expected a text")?;
+            check_tokens(text)?;
+            let value = S::opaque(alloc, text)?;
             Ok(Step::Opaque { label, value })
         }
     }

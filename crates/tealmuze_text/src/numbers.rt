@@ -7,6 +7,7 @@ use toml::Value;
 /// TOML has no integer for.
 pub fn number(value: &Value) -> Result<u64> {
     if let Some(text) = value.as_str() {
+        check_decimal(text)?;
         return text.parse().context("expected a number");
     }
     match value.as_integer().map(u64::try_from) {
@@ -14,6 +15,28 @@ pub fn number(value: &Value) -> Result<u64> {
         Some(Err(_)) => bail!("expected a number that is not below 0"),
         None => bail!("expected a number"),
     }
+}
+
+// Refuses a text that is no number in decimal digits: one with a sign too, and one with a zero before its first digit.
+fn check_decimal(text: &str) -> Result<()> {
+    let digits = text.as_bytes();
+    if digits.is_empty() || !digits.iter().all(|digit| digit.is_ascii_digit()) {
+        bail!("expected decimal digits");
+    }
+    if digits.len() > 1 && digits.first() == Some(&b'0') {
+        bail!("expected decimal digits with no zero before them");
+    }
+    Ok(())
+}
+
+/// Refuses several tokens of which one is no number in decimal digits. A text of one token may be a number or not.
+pub fn check_tokens(text: &str) -> Result<()> {
+    if text.split_whitespace().count() > 1 {
+        for token in text.split_whitespace() {
+            check_decimal(token)?;
+        }
+    }
+    Ok(())
 }
 
 /// The bytes that a text in hexadecimal says.
