@@ -1,5 +1,6 @@
 // Numbers, lists and bytes that a file has.
-use anyhow::{Context, Result, bail};
+use anyhow::{Context, Error, Result, bail};
+use hex::FromHexError;
 use std::alloc::Global;
 use toml::Value;
 
@@ -41,8 +42,19 @@ pub fn check_tokens(text: &str) -> Result<()> {
 
 /// The bytes that a text in hexadecimal says.
 pub fn bytes(alloc: Global, value: &Value) -> Result<Vec<u8>> {
-    let digits = value.as_str().context("expected hexadecimal digits")?;
-    hex::decode(alloc, digits).context("expected hexadecimal digits")
+    decoded(alloc, value.as_str().context(NOT_HEXADECIMAL)?)
+}
+
+/// What is said of a text that has no hexadecimal digits, or an odd number of them.
+pub const NOT_HEXADECIMAL: &str = "expected hexadecimal digits";
+
+/// The bytes that hexadecimal digits say.
+pub fn decoded(alloc: Global, digits: &str) -> Result<Vec<u8>> {
+    match hex::decode(alloc, digits) {
+        Ok(bytes) => Ok(bytes),
+        Err(FromHexError::OutOfMemory) => bail!("out of memory"),
+        Err(error) => Err(Error::from(error).context(NOT_HEXADECIMAL)),
+    }
 }
 
 /// What a list has.
