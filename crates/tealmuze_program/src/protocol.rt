@@ -8,6 +8,7 @@ use script_lines::recording::record;
 use script_lines::world::{SeparatorOf, World};
 use std::alloc::Global;
 use tealmuze_text::entry::Entry;
+use tealmuze_text::limits::{MOST_OPEN, check_count};
 use tealmuze_text::numbers::bytes;
 use tealmuze_text::refusal::RefusalShown;
 
@@ -36,7 +37,6 @@ impl<'a, S: World> Protocol<'a, S> {
     pub fn parse(alloc: Global, file: Entry<'a>) -> Result<Protocol<'a, S>> {
         file.only(&["suite", "name", "version", "instance", "steps"])?;
         let (steps, names) = parse_steps(alloc, file.list("steps")?)?;
-        check_admitted(steps.as_slice())?;
         let separator = parse_separator::<S>(alloc, file, steps.as_slice())?;
         Ok(Protocol {
             separator,
@@ -82,26 +82,35 @@ fn parse_steps<'a, S: World>(
 ) -> Result<(Vec<Step<S>>, Vec<Name<'a>>)> {
     let mut steps = Vec::new(alloc);
     let mut names = Vec::new(alloc);
+    let mut open = 0;
     for (place, value) in list.iter().enumerate() {
         let (step, name) = parse_named(alloc, value).context(format_args!("steps[{place}]"))?;
+        open = opened(open, &step).context(format_args!("steps[{place}]"))?;
+        check_count(place).context(format_args!("steps[{place}]"))?;
         steps.push(step)?;
         names.push(name)?;
+        check_last(steps.as_slice()).context(format_args!("steps[{place}]"))?;
     }
     Ok((steps, names))
 }
 
-// Refuses steps of which the suite does not play one.
-fn check_admitted<S: Suite>(steps: &[Step<S>]) -> Result<()> {
-    for place in 0..steps.len() {
-        let alone = &steps[place..=place];
-        match only(alone) {
-            Some(step) if is_admitted(alone, step) => {}
-            _ => bail!(
-                "steps[{place}]: the suite does not play this step, or not with so many bits"
-            ),
-        }
+// How many containers are open after a step that found so many.
+fn opened<S: Suite>(open: usize, step: &Step<S>) -> Result<usize> {
+    match step {
+        Step::Begin { .. } if open >= MOST_OPEN => bail!("more than {MOST_OPEN} open containers"),
+        Step::Begin { .. } => Ok(open.saturating_add(1)),
+        Step::End { .. } => Ok(open.saturating_sub(1)),
+        _ => Ok(open),
     }
-    Ok(())
+}
+
+// Refuses steps of which the suite does not play the last.
+fn check_last<S: Suite>(steps: &[Step<S>]) -> Result<()> {
+    let last = &steps[steps.len().saturating_sub(1)..];
+    match only(last) {
+        Some(step) if is_admitted(last, step) => Ok(()),
+        _ => bail!("the suite does not play this step, or not with so many bits"),
+    }
 }
 
 fn parse_separator<S: World>(

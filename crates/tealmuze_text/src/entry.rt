@@ -1,4 +1,5 @@
 // A table of a file, of which each error names the key.
+use crate::limits::MOST_DRAWS;
 use crate::numbers::{items, number};
 use anyhow::{Context, Result, bail};
 use std::alloc::Global;
@@ -63,6 +64,15 @@ impl<'a> Entry<'a> {
         usize::try_from(self.number(key)?)
             .context("expected a count")
             .context(key)
+    }
+
+    /// How many values a step draws.
+    pub fn draws(&self) -> Result<usize> {
+        let n = self.count("n")?;
+        if n > MOST_DRAWS {
+            bail!("n: more than {MOST_DRAWS}");
+        }
+        Ok(n)
     }
 
     /// The list at the key.

@@ -8,6 +8,7 @@ pub mod entry;
 pub mod explanation;
 mod json;
 pub mod labels;
+pub mod limits;
 pub mod line;
 pub mod numbers;
 pub mod proofs;
