@@ -8,9 +8,10 @@ use script_lines::recording::record;
 use script_lines::world::{SeparatorOf, World};
 use std::alloc::Global;
 use tealmuze_text::entry::Entry;
-use tealmuze_text::limits::{MOST_OPEN, check_count};
+use tealmuze_text::limits::MOST_OPEN;
 use tealmuze_text::numbers::bytes;
 use tealmuze_text::refusal::RefusalShown;
+use tealmuze_text::repetition::{Listed, unrolled};
 
 /// What a file calls a step.
 #[derive(Clone, Copy, Debug)]
@@ -65,8 +66,7 @@ pub fn refusal<'a>(
     })
 }
 
-fn parse_named<'a, S: World>(alloc: Global, value: &'a toml::Value) -> Result<(Step<S>, Name<'a>)> {
-    let entry = Entry::of(value)?;
+fn parse_named<'a, S: World>(alloc: Global, entry: Entry<'a>) -> Result<(Step<S>, Name<'a>)> {
     let step = parse_step(alloc, entry)?;
     let name = Name {
         kind: entry.text("type")?,
@@ -75,7 +75,7 @@ fn parse_named<'a, S: World>(alloc: Global, value: &'a toml::Value) -> Result<(S
     Ok((step, name))
 }
 
-// The steps, and what the file calls each of them.
+// The steps, those that are repeated as many times as they are, and what the file calls each of them.
 fn parse_steps<'a, S: World>(
     alloc: Global,
     list: &'a [toml::Value],
@@ -83,13 +83,13 @@ fn parse_steps<'a, S: World>(
     let mut steps = Vec::new(alloc);
     let mut names = Vec::new(alloc);
     let mut open = 0;
-    for (place, value) in list.iter().enumerate() {
-        let (step, name) = parse_named(alloc, value).context(format_args!("steps[{place}]"))?;
-        open = opened(open, &step).context(format_args!("steps[{place}]"))?;
-        check_count(place).context(format_args!("steps[{place}]"))?;
+    for listed in unrolled(alloc, list)? {
+        let Listed { entry, place } = listed;
+        let (step, name) = parse_named(alloc, entry).context(place)?;
+        open = opened(open, &step).context(place)?;
         steps.push(step)?;
         names.push(name)?;
-        check_last(steps.as_slice()).context(format_args!("steps[{place}]"))?;
+        check_last(steps.as_slice()).context(place)?;
     }
     Ok((steps, names))
 }

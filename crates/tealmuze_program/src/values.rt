@@ -20,7 +20,7 @@ pub fn parse_values<S: Suite>(
         if matches!(standing_of(step), Standing::Sent) {
             let number = sent.len();
             let value = parse_next(alloc, step, values.next()).context(format_args!(
-                "values[{number}], of steps[{place}]"
+                "values[{number}], of step {place}"
             ))?;
             sent.push(value)?;
         }

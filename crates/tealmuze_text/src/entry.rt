@@ -41,6 +41,11 @@ impl<'a> Entry<'a> {
         })
     }
 
+    /// Whether something stands at the key.
+    pub fn has(&self, key: &'static str) -> bool {
+        self.table.get(key).is_some()
+    }
+
     /// What stands at the key.
     pub fn value(&self, key: &'static str) -> Result<&'a Value> {
         self.table.get(key).context("missing").context(key)

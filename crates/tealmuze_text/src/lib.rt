@@ -13,6 +13,7 @@ pub mod line;
 pub mod numbers;
 pub mod proofs;
 pub mod refusal;
+pub mod repetition;
 pub mod shown;
 pub mod steps;
 mod table;
