@@ -6,6 +6,7 @@
 #![tactic(auto)]
 
 mod answer;
+mod beginning;
 mod elements;
 mod explaining;
 mod explanation;

@@ -9,6 +9,7 @@ use script_lines::world::{SeparatorOf, World};
 use std::alloc::Global;
 use tealmuze_text::entry::Entry;
 use tealmuze_text::limits::MOST_OPEN;
+use tealmuze_text::line::StepOnLine;
 use tealmuze_text::numbers::bytes;
 use tealmuze_text::refusal::RefusalShown;
 use tealmuze_text::repetition::{Listed, unrolled};
@@ -45,6 +46,16 @@ impl<'a, S: World> Protocol<'a, S> {
             names,
         })
     }
+}
+
+/// The step of these names on a line.
+pub fn step_on_line<'a>(names: &[Name<'a>], step: usize) -> Result<StepOnLine<'a>> {
+    let name = names.get(step).context("a step without a name")?;
+    Ok(StepOnLine {
+        step,
+        kind: name.kind,
+        label: name.label,
+    })
 }
 
 /// The refusal that a fault is of the steps of these names, at this byte of the proof if one is known.

@@ -46,3 +46,25 @@ impl fmt::Display for Cut<'_> {
 
 /// How many bytes of a label are shown at most.
 pub const LABEL_BYTES: usize = 60;
+
+/// A step on a line: its number, and what the file calls it.
+#[derive(Clone, Copy)]
+pub struct StepOnLine<'a> {
+    /// The step, counted from 0.
+    pub step: usize,
+    /// Which kind of step it is.
+    pub kind: &'a str,
+    /// Its label.
+    pub label: &'a str,
+}
+
+impl fmt::Display for StepOnLine<'_> {
+    fn fmt<W: fmt::Write>(&self, f: &mut fmt::Formatter<W>) -> fmt::Result {
+        let (step, kind) = (self.step, self.kind);
+        let label = Cut {
+            text: self.label,
+            most: LABEL_BYTES,
+        };
+        write!(f, "step {step} ({kind} `{label}`)")
+    }
+}

@@ -1,6 +1,6 @@
 // Where values or a proof are refused, and why.
 use crate::json::{Object, ToJson};
-use crate::line::{Cut, LABEL_BYTES, OneLine};
+use crate::line::{OneLine, StepOnLine};
 use anyhow::Result;
 use std::alloc::Global;
 
@@ -35,12 +35,9 @@ impl RefusalShown<'_> {
     fn place(&self, alloc: Global) -> Result<String> {
         let step = self.step;
         match (self.kind, self.label) {
-            (Some(kind), Some(text)) => {
-                let label = Cut {
-                    text,
-                    most: LABEL_BYTES,
-                };
-                Ok(format!(in alloc; "step {step} ({kind} `{label}`)")?)
+            (Some(kind), Some(label)) => {
+                let place = StepOnLine { step, kind, label };
+                Ok(format!(in alloc; "{place}")?)
             }
             _ => Ok(String::from_str(alloc, "the end")?),
         }
