@@ -282,7 +282,7 @@ fn answer_explain<S: Told>(
     let proof = proof_of(alloc, request, second)?;
     let explained = explained(alloc, request, protocol, proof.as_slice())?;
     let shown = explanation(alloc, protocol.names.as_slice(), explained)?;
-    let text = shown.text(alloc, proof.len())?;
+    let text = shown.text(alloc, proof.len(), request.whole)?;
     let status = u8::from(!shown.accepted);
     written(alloc, request, &shown, text, status)
 }
