@@ -50,6 +50,9 @@ fn run(rt: &HostRuntime) -> Result<u8> {
         None => Vec::new(alloc),
     };
     let answer = tealmuze_program::respond(alloc, &request, file.as_str(), second.as_slice())?;
+    for warning in &answer.warnings {
+        eprintln!(rt; "tealmuze: warning: {warning}")?;
+    }
     io::writer(rt).write_all(answer.output.as_slice())?;
     Ok(answer.status)
 }

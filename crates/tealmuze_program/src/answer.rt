@@ -6,6 +6,7 @@ use crate::protocol::{Name, Protocol, refusal, step_on_line};
 use crate::shown::{all_drawn, all_received, numbers};
 use crate::suites::{GoldilocksBytes, Told};
 use crate::values::{Values, parse_values};
+use crate::warnings::warnings;
 use anyhow::{Context, Error, Result, bail};
 use conformance_tokens::symbol::element;
 use p3_challenger::ChallengerError;
@@ -87,11 +88,22 @@ fn answer_in<S: Told>(
     second: &[u8],
 ) -> Result<Answer> {
     let protocol = Protocol::<S>::parse(alloc, file).context(request.file)?;
+    let mut answer = answer_command(alloc, request, &protocol, second)?;
+    answer.warnings = warnings(alloc, protocol.steps.as_slice(), protocol.names.as_slice())?;
+    Ok(answer)
+}
+
+fn answer_command<S: Told>(
+    alloc: Global,
+    request: &Request<'_>,
+    protocol: &Protocol<'_, S>,
+    second: &[u8],
+) -> Result<Answer> {
     match request.command {
-        Command::Pattern => answer_pattern(alloc, request, &protocol),
-        Command::Prove => answer_prove(alloc, request, &protocol, second),
-        Command::Verify => answer_verify(alloc, request, &protocol, second),
-        Command::Explain => answer_explain(alloc, request, &protocol, second),
+        Command::Pattern => answer_pattern(alloc, request, protocol),
+        Command::Prove => answer_prove(alloc, request, protocol, second),
+        Command::Verify => answer_verify(alloc, request, protocol, second),
+        Command::Explain => answer_explain(alloc, request, protocol, second),
     }
 }
 
@@ -192,6 +204,7 @@ fn answer_proved<S: Told>(
         return Ok(Answer {
             output: copied(alloc, proof)?,
             status: 0,
+            warnings: Vec::new(alloc),
         });
     }
     let shown = ProofShown {

@@ -16,5 +16,6 @@ mod shown;
 mod steps;
 mod suites;
 mod values;
+mod warnings;
 
 pub use answer::respond;

@@ -14,6 +14,8 @@ pub struct Answer {
     pub output: Vec<u8>,
     /// 0, or 1 where values or a proof are refused.
     pub status: u8,
+    /// The lines of what looks weak in the protocol.
+    pub warnings: Vec<String>,
 }
 
 /// What is written: as JSON where that is asked for, and else as this text.
@@ -32,6 +34,7 @@ pub fn written<T: ToJson>(
     Ok(Answer {
         output: output.into_bytes(),
         status,
+        warnings: Vec::new(alloc),
     })
 }
 
