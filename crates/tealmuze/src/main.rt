@@ -3,19 +3,26 @@
 #![tactic(auto)]
 
 use anyhow::{Context, Result};
+use std::fmt::InlineText;
 use std::io::Write;
 use std::process::ExitCode;
 use std::{env, fs, io};
 use tealmuze_text::command;
+use tealmuze_text::line::OneLine;
 
 // The exit status where the input is bad.
 const BAD_INPUT: u8 = 2;
+
+// More bytes than an error says, with its causes.
+const ERROR_BYTES: usize = 500;
 
 fn main(rt: HostRuntime) -> Result<ExitCode> {
     match run(&rt) {
         Ok(status) => Ok(ExitCode::from(status)),
         Err(error) => {
-            eprintln!(rt; "tealmuze: {error:#}")?;
+            let told = InlineText::<ERROR_BYTES>::of(format_args!("{error:#}"));
+            let text = told.as_str();
+            eprintln!(rt; "tealmuze: {}", OneLine { text })?;
             Ok(ExitCode::from(BAD_INPUT))
         }
     }
@@ -43,6 +50,9 @@ fn run(rt: &HostRuntime) -> Result<u8> {
         None => Vec::new(alloc),
     };
     let answer = tealmuze_program::respond(alloc, &request, file.as_str(), second.as_slice())?;
+    for warning in &answer.warnings {
+        eprintln!(rt; "tealmuze: warning: {warning}")?;
+    }
     io::writer(rt).write_all(answer.output.as_slice())?;
     Ok(answer.status)
 }

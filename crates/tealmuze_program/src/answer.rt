@@ -1,10 +1,12 @@
 // What the program answers to a command.
+use crate::beginning::begin;
 use crate::explaining::{Explained, explain};
 use crate::explanation::{digits, explanation};
-use crate::protocol::{Name, Protocol, refusal};
+use crate::protocol::{Name, Protocol, refusal, step_on_line};
 use crate::shown::{all_drawn, all_received, numbers};
 use crate::suites::{GoldilocksBytes, Told};
-use crate::values::parse_values;
+use crate::values::{Values, parse_values};
+use crate::warnings::warnings;
 use anyhow::{Context, Error, Result, bail};
 use conformance_tokens::symbol::element;
 use p3_challenger::ChallengerError;
@@ -14,7 +16,7 @@ use p3_keccak::Keccak256Hasher;
 use script_lines::playing::{prove_steps, verify_steps};
 use std::alloc::Global;
 use tealmuze_text::answers::{
-    Answer, PatternShown, ProofShown, UnprovedShown, VerdictShown, written,
+    Answer, BegunShown, PatternShown, ProofShown, UnprovedShown, VerdictShown, written,
 };
 use tealmuze_text::command::{Command, Request};
 use tealmuze_text::entry::{Entry, parse_table};
@@ -86,11 +88,22 @@ fn answer_in<S: Told>(
     second: &[u8],
 ) -> Result<Answer> {
     let protocol = Protocol::<S>::parse(alloc, file).context(request.file)?;
+    let mut answer = answer_command(alloc, request, &protocol, second)?;
+    answer.warnings = warnings(alloc, protocol.steps.as_slice(), protocol.names.as_slice())?;
+    Ok(answer)
+}
+
+fn answer_command<S: Told>(
+    alloc: Global,
+    request: &Request<'_>,
+    protocol: &Protocol<'_, S>,
+    second: &[u8],
+) -> Result<Answer> {
     match request.command {
-        Command::Pattern => answer_pattern(alloc, request, &protocol),
-        Command::Prove => answer_prove(alloc, request, &protocol, second),
-        Command::Verify => answer_verify(alloc, request, &protocol, second),
-        Command::Explain => answer_explain(alloc, request, &protocol, second),
+        Command::Pattern => answer_pattern(alloc, request, protocol),
+        Command::Prove => answer_prove(alloc, request, protocol, second),
+        Command::Verify => answer_verify(alloc, request, protocol, second),
+        Command::Explain => answer_explain(alloc, request, protocol, second),
     }
 }
 
@@ -127,17 +140,42 @@ fn answer_prove<S: Told>(
     second: &[u8],
 ) -> Result<Answer> {
     let steps = protocol.steps.as_slice();
-    let sent = sent_of(alloc, steps, second).context(request.second.unwrap_or("values"))?;
+    let values = values_of(alloc, steps, second).context(request.second.unwrap_or("values"))?;
+    let sent = values.sent.as_slice();
+    if let Some(step) = values.missing {
+        return answer_begun(alloc, request, protocol, step, sent);
+    }
     let challenger = S::fresh(alloc)?;
-    let sent = sent.as_slice();
     match prove_steps::<S>(alloc, challenger, &protocol.separator, steps, sent)? {
         Ok(proved) => answer_proved(alloc, request, &proved),
         Err(fault) => answer_unproved(alloc, request, protocol.names.as_slice(), &fault),
     }
 }
 
+// Of values for the steps before this one alone.
+fn answer_begun<S: Told>(
+    alloc: Global,
+    request: &Request<'_>,
+    protocol: &Protocol<'_, S>,
+    step: usize,
+    sent: &[Sent<S>],
+) -> Result<Answer> {
+    let steps = protocol.steps.as_slice().get(..step).unwrap_or(&[]);
+    let begun = begin::<S>(alloc, &protocol.separator, steps, sent)?;
+    if let Some(fault) = &begun.refused {
+        return answer_unproved(alloc, request, protocol.names.as_slice(), fault);
+    }
+    let shown = BegunShown {
+        missing: step_on_line(protocol.names.as_slice(), step)?,
+        bytes: hex::encode(alloc, begun.narg.as_slice())?,
+        witnesses: numbers::<S>(alloc, begun.witnesses.as_slice())?,
+        challenges: all_drawn::<S>(alloc, begun.challenges.as_slice())?,
+    };
+    written(alloc, request, &shown, shown.text(alloc)?, 1)
+}
+
 // The values of a file.
-fn sent_of<S: Told>(alloc: Global, steps: &[Step<S>], second: &[u8]) -> Result<Vec<Sent<S>>> {
+fn values_of<S: Told>(alloc: Global, steps: &[Step<S>], second: &[u8]) -> Result<Values<S>> {
     let text = std::str::from_utf8(second).context("expected a text")?;
     let table = parse_table(alloc, text)?;
     let file = Entry::new(&table);
@@ -166,6 +204,7 @@ fn answer_proved<S: Told>(
         return Ok(Answer {
             output: copied(alloc, proof)?,
             status: 0,
+            warnings: Vec::new(alloc),
         });
     }
     let shown = ProofShown {
@@ -256,7 +295,7 @@ fn answer_explain<S: Told>(
     let proof = proof_of(alloc, request, second)?;
     let explained = explained(alloc, request, protocol, proof.as_slice())?;
     let shown = explanation(alloc, protocol.names.as_slice(), explained)?;
-    let text = shown.text(alloc, proof.len())?;
+    let text = shown.text(alloc, proof.len(), request.whole)?;
     let status = u8::from(!shown.accepted);
     written(alloc, request, &shown, text, status)
 }

@@ -6,6 +6,7 @@
 #![tactic(auto)]
 
 mod answer;
+mod beginning;
 mod elements;
 mod explaining;
 mod explanation;
@@ -15,5 +16,6 @@ mod shown;
 mod steps;
 mod suites;
 mod values;
+mod warnings;
 
 pub use answer::respond;

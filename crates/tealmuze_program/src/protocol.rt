@@ -8,8 +8,11 @@ use script_lines::recording::record;
 use script_lines::world::{SeparatorOf, World};
 use std::alloc::Global;
 use tealmuze_text::entry::Entry;
+use tealmuze_text::limits::MOST_OPEN;
+use tealmuze_text::line::StepOnLine;
 use tealmuze_text::numbers::bytes;
 use tealmuze_text::refusal::RefusalShown;
+use tealmuze_text::repetition::{Listed, unrolled};
 
 /// What a file calls a step.
 #[derive(Clone, Copy, Debug)]
@@ -36,7 +39,6 @@ impl<'a, S: World> Protocol<'a, S> {
     pub fn parse(alloc: Global, file: Entry<'a>) -> Result<Protocol<'a, S>> {
         file.only(&["suite", "name", "version", "instance", "steps"])?;
         let (steps, names) = parse_steps(alloc, file.list("steps")?)?;
-        check_admitted(steps.as_slice())?;
         let separator = parse_separator::<S>(alloc, file, steps.as_slice())?;
         Ok(Protocol {
             separator,
@@ -44,6 +46,16 @@ impl<'a, S: World> Protocol<'a, S> {
             names,
         })
     }
+}
+
+/// The step of these names on a line.
+pub fn step_on_line<'a>(names: &[Name<'a>], step: usize) -> Result<StepOnLine<'a>> {
+    let name = names.get(step).context("a step without a name")?;
+    Ok(StepOnLine {
+        step,
+        kind: name.kind,
+        label: name.label,
+    })
 }
 
 /// The refusal that a fault is of the steps of these names, at this byte of the proof if one is known.
@@ -65,8 +77,7 @@ pub fn refusal<'a>(
     })
 }
 
-fn parse_named<'a, S: World>(alloc: Global, value: &'a toml::Value) -> Result<(Step<S>, Name<'a>)> {
-    let entry = Entry::of(value)?;
+fn parse_named<'a, S: World>(alloc: Global, entry: Entry<'a>) -> Result<(Step<S>, Name<'a>)> {
     let step = parse_step(alloc, entry)?;
     let name = Name {
         kind: entry.text("type")?,
@@ -75,33 +86,42 @@ fn parse_named<'a, S: World>(alloc: Global, value: &'a toml::Value) -> Result<(S
     Ok((step, name))
 }
 
-// The steps, and what the file calls each of them.
+// The steps, those that are repeated as many times as they are, and what the file calls each of them.
 fn parse_steps<'a, S: World>(
     alloc: Global,
     list: &'a [toml::Value],
 ) -> Result<(Vec<Step<S>>, Vec<Name<'a>>)> {
     let mut steps = Vec::new(alloc);
     let mut names = Vec::new(alloc);
-    for (place, value) in list.iter().enumerate() {
-        let (step, name) = parse_named(alloc, value).context(format_args!("steps[{place}]"))?;
+    let mut open = 0;
+    for listed in unrolled(alloc, list)? {
+        let Listed { entry, place } = listed;
+        let (step, name) = parse_named(alloc, entry).context(place)?;
+        open = opened(open, &step).context(place)?;
         steps.push(step)?;
         names.push(name)?;
+        check_last(steps.as_slice()).context(place)?;
     }
     Ok((steps, names))
 }
 
-// Refuses steps of which the suite does not play one.
-fn check_admitted<S: Suite>(steps: &[Step<S>]) -> Result<()> {
-    for place in 0..steps.len() {
-        let alone = &steps[place..=place];
-        match only(alone) {
-            Some(step) if is_admitted(alone, step) => {}
-            _ => bail!(
-                "steps[{place}]: the suite does not play this step, or not with so many bits"
-            ),
-        }
+// How many containers are open after a step that found so many.
+fn opened<S: Suite>(open: usize, step: &Step<S>) -> Result<usize> {
+    match step {
+        Step::Begin { .. } if open >= MOST_OPEN => bail!("more than {MOST_OPEN} open containers"),
+        Step::Begin { .. } => Ok(open.saturating_add(1)),
+        Step::End { .. } => Ok(open.saturating_sub(1)),
+        _ => Ok(open),
     }
-    Ok(())
+}
+
+// Refuses steps of which the suite does not play the last.
+fn check_last<S: Suite>(steps: &[Step<S>]) -> Result<()> {
+    let last = &steps[steps.len().saturating_sub(1)..];
+    match only(last) {
+        Some(step) if is_admitted(last, step) => Ok(()),
+        _ => bail!("the suite does not play this step, or not with so many bits"),
+    }
 }
 
 fn parse_separator<S: World>(

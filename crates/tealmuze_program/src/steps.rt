@@ -8,6 +8,7 @@ use script_lines::world::World;
 use std::alloc::Global;
 use tealmuze_text::entry::Entry;
 use tealmuze_text::labels::label;
+use tealmuze_text::numbers::check_tokens;
 use tealmuze_text::steps::keys_of;
 use toml::Value;
 
@@ -90,7 +91,9 @@ fn step_of_value<S: World>(
             Ok(Step::ObserveExtension { label, value })
         }
         _ => {
-            let value = S::opaque(alloc, value.as_str().context("expected a text")?)?;
+            let text = value.as_str().context("expected a text")?;
+            check_tokens(text)?;
+            let value = S::opaque(alloc, text)?;
             Ok(Step::Opaque { label, value })
         }
     }
@@ -139,7 +142,7 @@ fn single<S: World>(name: &str, label: Label) -> Step<S> {
 // Draws of numbers of bits.
 fn parse_bits<S: World>(entry: Entry<'_>, name: &str, label: Label) -> Result<Step<S>> {
     let width = entry.count("width")?;
-    let n = entry.count("n")?;
+    let n = entry.draws()?;
     Ok(match name {
         "challenge_bits" => Step::ChallengeBits { label, width, n },
         _ => Step::ChallengeUniformBits { label, width, n },
@@ -148,13 +151,13 @@ fn parse_bits<S: World>(entry: Entry<'_>, name: &str, label: Label) -> Result<St
 
 // A step that has one count: of bytes, of values, or of the bits of a proof of work.
 fn parse_counted<S: World>(entry: Entry<'_>, name: &str, label: Label) -> Result<Step<S>> {
-    let key = match name {
-        "salt" | "bytes" | "hint" => "len",
-        "bytes_bounded" | "hint_bounded" | "scalars_bounded" => "max",
-        "pow" | "observe_pow" => "bits",
-        _ => "n",
+    let count = match name {
+        "salt" | "bytes" | "hint" => entry.count("len")?,
+        "bytes_bounded" | "hint_bounded" | "scalars_bounded" => entry.count("max")?,
+        "pow" | "observe_pow" => entry.count("bits")?,
+        "scalars" => entry.count("n")?,
+        _ => entry.draws()?,
     };
-    let count = entry.count(key)?;
     Ok(counted(name, label, count))
 }
 

@@ -7,20 +7,35 @@ use std::alloc::Global;
 use tealmuze_text::numbers::{bytes, items};
 use toml::Value;
 
-/// Reads the values of the steps that send one, in order. The error says what is wrong and where, or that memory ran
-/// out.
+/// The values that steps are sent.
+#[derive(Drop)]
+pub struct Values<S: Suite> {
+    /// They, in order.
+    pub sent: Vec<Sent<S>>,
+    /// The first step that sends a value and has none.
+    pub missing: Option<usize>,
+}
+
+/// Reads the values of the steps that send one, in order, as many as there are. The error says what is wrong and where,
+/// or that memory ran out.
 pub fn parse_values<S: Suite>(
     alloc: Global,
     steps: &[Step<S>],
     list: &[Value],
-) -> Result<Vec<Sent<S>>> {
+) -> Result<Values<S>> {
     let mut sent = Vec::new(alloc);
     let mut values = list.iter();
     for (place, step) in steps.iter().enumerate() {
         if matches!(standing_of(step), Standing::Sent) {
             let number = sent.len();
-            let value = parse_next(alloc, step, values.next()).context(format_args!(
-                "values[{number}], of steps[{place}]"
+            let Some(value) = values.next() else {
+                return Ok(Values {
+                    sent,
+                    missing: Some(place),
+                });
+            };
+            let value = parse_value(alloc, step, value).context(format_args!(
+                "values[{number}], of step {place}"
             ))?;
             sent.push(value)?;
         }
@@ -29,11 +44,10 @@ pub fn parse_values<S: Suite>(
         let number = sent.len();
         bail!("values[{number}]: no step is left that sends it");
     }
-    Ok(sent)
-}
-
-fn parse_next<S: Suite>(alloc: Global, step: &Step<S>, value: Option<&Value>) -> Result<Sent<S>> {
-    parse_value(alloc, step, value.context("missing")?)
+    Ok(Values {
+        sent,
+        missing: None,
+    })
 }
 
 fn parse_value<S: Suite>(alloc: Global, step: &Step<S>, value: &Value) -> Result<Sent<S>> {

@@ -1,6 +1,7 @@
 // What the program answers.
 use crate::command::Request;
 use crate::json::{Object, ToJson, list, optional};
+use crate::line::StepOnLine;
 use crate::refusal::RefusalShown;
 use crate::shown::{Lines, Shown};
 use anyhow::Result;
@@ -13,6 +14,8 @@ pub struct Answer {
     pub output: Vec<u8>,
     /// 0, or 1 where values or a proof are refused.
     pub status: u8,
+    /// The lines of what looks weak in the protocol.
+    pub warnings: Vec<String>,
 }
 
 /// What is written: JSON if it is asked for, otherwise this text.
@@ -31,6 +34,7 @@ pub fn written<T: ToJson>(
     Ok(Answer {
         output: output.into_bytes(),
         status,
+        warnings: Vec::new(alloc),
     })
 }
 
@@ -97,6 +101,49 @@ impl ToJson for ProofShown {
             .member("proof", &self.proof)
             .member("witnesses", &self.witnesses)
             .member("carried", &self.carried)
+            .shown("challenges", list(alloc, self.challenges.as_slice()))
+            .close()
+    }
+}
+
+/// The beginning of a proof, of values for the first steps alone.
+#[derive(Drop)]
+pub struct BegunShown<'a> {
+    /// The first step that has no value.
+    pub missing: StepOnLine<'a>,
+    /// The bytes that the steps before it wrote, in hexadecimal.
+    pub bytes: String,
+    /// The witnesses that they found.
+    pub witnesses: Vec<u64>,
+    /// What they drew, for each step that draws.
+    pub challenges: Vec<Shown>,
+}
+
+impl BegunShown<'_> {
+    /// The beginning as text.
+    pub fn text(&self, alloc: Global) -> Result<String> {
+        let (missing, bytes) = (self.missing, &self.bytes);
+        let challenges = Lines {
+            word: "challenge",
+            values: self.challenges.as_slice(),
+        };
+        Ok(format!(in alloc;
+            "bytes {bytes}\n{challenges}a part of a proof: no value for {missing}\n"
+        )?)
+    }
+}
+
+impl ToJson for BegunShown<'_> {
+    fn json(&self, alloc: Global) -> Result<String> {
+        let missing = Object::new(alloc)
+            .member("step", &self.missing.step)
+            .member("type", &self.missing.kind)
+            .member("label", &self.missing.label)
+            .close();
+        Object::new(alloc)
+            .shown("missing", missing)
+            .member("bytes", &self.bytes)
+            .member("witnesses", &self.witnesses)
             .shown("challenges", list(alloc, self.challenges.as_slice()))
             .close()
     }

@@ -29,6 +29,8 @@ pub struct Request<'a> {
     pub json: bool,
     /// Whether proofs are in hexadecimal.
     pub hex: bool,
+    /// Whether long cells of a table are shown whole.
+    pub whole: bool,
     /// The witnesses that are carried beside the proof.
     pub carried: Vec<u64>,
 }
@@ -73,7 +75,7 @@ fn grammar<'a>(alloc: Global) -> Result<clap::Command<'a>, AllocError> {
     let program = with(program(alloc)?, of_file(alloc, &PATTERN))?;
     let program = with(program, of_file(alloc, &PROVE))?;
     let program = with(program, of_proof(alloc, &VERIFY))?;
-    with(program, of_proof(alloc, &EXPLAIN))
+    with(program, of_table(alloc, &EXPLAIN))
 }
 
 // The program with one more command, if there is memory for it.
@@ -107,6 +109,15 @@ fn of_file<'a>(alloc: Global, usage: &Usage) -> Result<clap::Command<'a>, AllocE
 // A command that is about a proof.
 fn of_proof<'a>(alloc: Global, usage: &Usage) -> Result<clap::Command<'a>, AllocError> {
     of_file(alloc, usage)?.arg(carried(alloc))
+}
+
+// A command that shows a table about a proof.
+fn of_table<'a>(alloc: Global, usage: &Usage) -> Result<clap::Command<'a>, AllocError> {
+    let whole = Arg::new(alloc, "whole")
+        .long("whole")
+        .action(ArgAction::SetTrue)
+        .help("Shows long cells of the table whole");
+    of_proof(alloc, usage)?.arg(whole)
 }
 
 // A file that a command needs.
@@ -154,6 +165,7 @@ pub fn request_of<'a>(alloc: Global, matches: &ArgMatches<'a>) -> Result<Request
         second,
         json: matches.get_flag("json"),
         hex: matches.get_flag("hex"),
+        whole: matches.get_flag("whole"),
         carried,
     })
 }

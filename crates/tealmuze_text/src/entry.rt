@@ -1,4 +1,5 @@
 // A table of a file, of which each error names the key.
+use crate::limits::MOST_DRAWS;
 use crate::numbers::{items, number};
 use anyhow::{Context, Result, bail};
 use std::alloc::Global;
@@ -40,6 +41,11 @@ impl<'a> Entry<'a> {
         })
     }
 
+    /// Whether something stands at the key.
+    pub fn has(&self, key: &'static str) -> bool {
+        self.table.get(key).is_some()
+    }
+
     /// What stands at the key.
     pub fn value(&self, key: &'static str) -> Result<&'a Value> {
         self.table.get(key).context("missing").context(key)
@@ -63,6 +69,15 @@ impl<'a> Entry<'a> {
         usize::try_from(self.number(key)?)
             .context("expected a count")
             .context(key)
+    }
+
+    /// How many values a step draws.
+    pub fn draws(&self) -> Result<usize> {
+        let n = self.count("n")?;
+        if n > MOST_DRAWS {
+            bail!("n: more than {MOST_DRAWS}");
+        }
+        Ok(n)
     }
 
     /// The list at the key.

@@ -1,5 +1,6 @@
 // What became of a proof, as it is shown.
 use crate::json::{Object, ToJson, list, optional};
+use crate::line::{Cut, LABEL_BYTES};
 use crate::refusal::RefusalShown;
 use crate::shown::Shown;
 use crate::table::{COLUMNS, Line, layout};
@@ -80,9 +81,10 @@ const HEAD: [&str; COLUMNS] = [
 ];
 
 impl ExplainedShown<'_> {
-    /// The seed, a table of the steps, and what the end was, of a proof of so many bytes.
-    pub fn text(&self, alloc: Global, len: usize) -> Result<String> {
-        let table = self.table(alloc)?;
+    /// The seed, a table of the steps, and what the end was, of a proof of so many bytes. Long cells are cut, if they are
+    /// not to be whole.
+    pub fn text(&self, alloc: Global, len: usize, whole: bool) -> Result<String> {
+        let table = self.table(alloc, whole)?;
         let end = self.end(alloc, len)?;
         match &self.seed {
             Some(seed) => Ok(format!(in alloc; "seed {seed}\n{table}{end}")?),
@@ -90,11 +92,11 @@ impl ExplainedShown<'_> {
         }
     }
 
-    fn table(&self, alloc: Global) -> Result<String> {
+    fn table(&self, alloc: Global, whole: bool) -> Result<String> {
         let mut lines: Vec<Line> = Vec::new(alloc);
         lines.push(HEAD.try_map(|text| String::from_str(alloc, text))?)?;
         for row in &self.steps {
-            lines.push(line_of(alloc, row)?)?;
+            lines.push(line_of(alloc, row, whole)?)?;
         }
         layout(alloc, lines.as_slice())
     }
@@ -107,26 +109,40 @@ impl ExplainedShown<'_> {
     }
 }
 
-fn line_of(alloc: Global, row: &StepShown<'_>) -> Result<Line> {
+// How many bytes of a cell are shown at most.
+const CELL_BYTES: usize = 40;
+
+fn line_of(alloc: Global, row: &StepShown<'_>, whole: bool) -> Result<Line> {
+    let (most, most_of_label) = if whole {
+        (usize::MAX, usize::MAX)
+    } else {
+        (CELL_BYTES, LABEL_BYTES)
+    };
     Ok([
-        text(alloc, &row.step)?,
-        text(alloc, &row.kind)?,
-        text(alloc, &row.label)?,
-        text(alloc, &row.offset)?,
-        text(alloc, &row.read)?,
-        text_or_none(alloc, &row.value)?,
-        text_or_none(alloc, &row.fed)?,
-        text_or_none(alloc, &row.challenge)?,
+        text(alloc, &row.step, most)?,
+        text(alloc, &row.kind, most)?,
+        text(alloc, &row.label, most_of_label)?,
+        text(alloc, &row.offset, most)?,
+        text(alloc, &row.read, most)?,
+        text_or_none(alloc, &row.value, most)?,
+        text_or_none(alloc, &row.fed, most)?,
+        text_or_none(alloc, &row.challenge, most)?,
     ])
 }
 
-fn text<T: Display>(alloc: Global, shown: &T) -> Result<String> {
-    Ok(format!(in alloc; "{shown}")?)
+// The cell of a value, of at most so many bytes.
+fn text<T: Display>(alloc: Global, shown: &T, most: usize) -> Result<String> {
+    let text = format!(in alloc; "{shown}")?;
+    let cut = Cut {
+        text: text.as_str(),
+        most,
+    };
+    Ok(format!(in alloc; "{cut}")?)
 }
 
-fn text_or_none<T: Display>(alloc: Global, shown: &Option<T>) -> Result<String> {
+fn text_or_none<T: Display>(alloc: Global, shown: &Option<T>, most: usize) -> Result<String> {
     match shown {
-        Some(shown) => text(alloc, shown),
+        Some(shown) => text(alloc, shown, most),
         None => Ok(String::new(alloc)),
     }
 }

@@ -1,5 +1,6 @@
 // Proofs as files have them.
 use crate::command::Request;
+use crate::numbers::{NOT_HEXADECIMAL, decoded};
 use anyhow::{Context, Result};
 use std::alloc::Global;
 
@@ -13,12 +14,12 @@ pub fn proof_of(alloc: Global, request: &Request<'_>, second: &[u8]) -> Result<V
 
 // The bytes of hexadecimal digits, between which there may be blanks and line ends.
 fn digits_of(alloc: Global, text: &[u8]) -> Result<Vec<u8>> {
-    let text = std::str::from_utf8(text).context("expected hexadecimal digits")?;
+    let text = std::str::from_utf8(text).context(NOT_HEXADECIMAL)?;
     let mut digits = String::new(alloc);
     for part in text.split_whitespace() {
         digits.push_str(part)?;
     }
-    hex::decode(alloc, digits.as_str()).context("expected hexadecimal digits")
+    decoded(alloc, digits.as_str())
 }
 
 /// A copy of bytes.

@@ -1,5 +1,6 @@
 // Where values or a proof are refused, and why.
 use crate::json::{Object, ToJson};
+use crate::line::{OneLine, StepOnLine};
 use anyhow::Result;
 use std::alloc::Global;
 
@@ -22,7 +23,9 @@ impl RefusalShown<'_> {
     /// The refusal as a line of text.
     pub fn line(&self, alloc: Global) -> Result<String> {
         let place = self.place(alloc)?;
-        let reason = &self.reason;
+        let reason = OneLine {
+            text: self.reason.as_str(),
+        };
         match self.byte {
             Some(byte) => Ok(format!(in alloc; "refused at {place}, byte {byte}: {reason}\n")?),
             None => Ok(format!(in alloc; "refused at {place}: {reason}\n")?),
@@ -32,7 +35,10 @@ impl RefusalShown<'_> {
     fn place(&self, alloc: Global) -> Result<String> {
         let step = self.step;
         match (self.kind, self.label) {
-            (Some(kind), Some(label)) => Ok(format!(in alloc; "step {step} ({kind} `{label}`)")?),
+            (Some(kind), Some(label)) => {
+                let place = StepOnLine { step, kind, label };
+                Ok(format!(in alloc; "{place}")?)
+            }
             _ => Ok(String::from_str(alloc, "the end")?),
         }
     }
