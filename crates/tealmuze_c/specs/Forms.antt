@@ -49,8 +49,3 @@ pub record IsWritten (bytes : List ℕ) (before : List ℕ) (returned : ℕ) (af
   pub wanted : returned ≡ length bytes
   pub fits : returned ≤ length before → after ≡ bytes ++ drop returned before
   pub too_long : length before < returned → after ≡ before
-
--- whatever is written, no byte is changed beyond the number that is returned, and none where the room is too small
-pub record StaysWithin (before : List ℕ) (returned : ℕ) (after : List ℕ) : Type 0 where
-  pub beyond : returned ≤ length before → drop returned after ≡ drop returned before
-  pub too_long : length before < returned → after ≡ before

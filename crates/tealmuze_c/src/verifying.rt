@@ -1,15 +1,17 @@
 //! A proof that is verified by one call.
-ghost use Rattle.std.specs.Prelude.{◌≡◌, ◌∷◌, ◌++◌, length, map, IfOk};
+ghost use Rattle.std.specs.Prelude.{◌≡◌, ◌<◌, ◌∷◌, ◌++◌, length, map, IfOk};
 ghost use Rattle.p3_challenger.specs.{Runs.{AreAdmitted, carried_count}, Verdicts.script_of};
 ghost use Rattle.p3_challenger.specs.Scripts.{play_of, values_received, challenges_of};
 ghost use Rattle.tealmuze_c.specs.Forms.{listed_bytes, value_bytes, challenge_bytes};
-ghost use Rattle.tealmuze_c.specs.Told.{TellsOfProof, TellsOfDescribed};
+ghost use Rattle.tealmuze_c.specs.{Told.TellsOfProof, Written.{ByAnswer, BySuite}};
 
 use crate::answers::{put_challenges, put_received};
+use crate::calls::Calls;
 use crate::cursor::Cursor;
 use crate::description::Protocol;
-use crate::room::check_room;
+use crate::room::wanted_room;
 use crate::suites::Called;
+use crate::telling::Answer;
 use crate::unanswered::Unanswered;
 use crate::verdicts::{DONE, refused};
 use crate::words::scalars;
@@ -19,14 +21,22 @@ use p3_symmetric::Sha256Hasher;
 use std::alloc::{AllocError, Global};
 use test_suites::{HashSuite, Serializing32Suite};
 
-/// Verifies a proof, and answers what is told of it. `room` bytes are given for it.
+/// Verifies a proof, and answers what is told of it. `room` bytes are given for it: where the answer may have more,
+/// nothing is verified.
 pub fn verify(
     alloc: Global,
     description: &'static [u8],
     proof: &[u8],
     carried: &[u64],
     room: usize,
-) -> Result<Vec<u8>, Unanswered> {
+) -> Result<Answer, Unanswered>
+    ensures { IfOk result (ByAnswer (BySuite
+        (⟦<HashSuite<Sha256Hasher> as Calls>⟧.tells_of_proof 1 proof.now carried.now)
+        (⟦<Serializing32Suite as Calls>⟧.tells_of_proof 1 proof.now carried.now) description.now)
+        (λ wanted. BySuite (⟦<HashSuite<Sha256Hasher> as Calls>⟧.wants_room 1 4 (length proof.now))
+        (⟦<Serializing32Suite as Calls>⟧.wants_room 1 4 (length proof.now)) description.now wanted
+        × room < wanted)) }
+{
     let mut from = Cursor::new(description);
     match from.byte()? {
         0 => verify_in::<HashSuite<Sha256Hasher>>(alloc, from, proof, carried, room),
@@ -42,17 +52,18 @@ fn verify_in<S: Called>(
     proof: &[u8],
     carried: &[u64],
     room: usize,
-) -> Result<Vec<u8>, Unanswered>
-    ensures { let rules = ⟦<S as Meaning>⟧.rules S.Field.DIMENSION in
-        IfOk result (λ bytes. TellsOfDescribed S S.Unit S.Challenger S.Codec S.Digest S.Group
-        rules S.Field.residues.number S.Extension.coefficients S.opaque_numbers S.is_fresh
-        from.entry.left.now
-        (λ run. TellsOfProof rules S.Field.residues.number S.Extension.coefficients run
-        proof.now carried.now bytes.items)) }
+) -> Result<Answer, Unanswered>
+    ensures { IfOk result (ByAnswer (⟦<S as Calls>⟧.tells_of_proof S.Field.DIMENSION proof.now
+        carried.now from.entry.left.now) (λ wanted. ⟦<S as Calls>⟧.wants_room S.Field.DIMENSION
+        S.Extension.DIMENSION (length proof.now) from.entry.left.now wanted × room < wanted)) }
 {
     let protocol = Protocol::<S>::parse(alloc, from)?;
-    check_room(protocol.steps.as_slice(), proof.len(), room)?;
-    answer(alloc, S::fresh(alloc), &protocol, proof, carried)
+    let wanted = wanted_room(protocol.steps.as_slice(), proof.len());
+    if wanted > room {
+        return Ok(Answer::Wants(wanted));
+    }
+    let bytes = answer(alloc, S::fresh(alloc), &protocol, proof, carried)?;
+    Ok(Answer::Told(bytes))
 }
 
 // Verifies a proof of the protocol.

@@ -27,5 +27,6 @@ returns-in-Err g c =
       refuses = refused.0;
       is_none = refused.1 tells.other;
       reason = tells.reason;
+      short = tells.short;
       told_is = refl;
     })) c.refused.ensures

@@ -31,5 +31,6 @@ returns g c =
       refuses = refused.0;
       is_none = refused.1 tells.other;
       reason = tells.reason;
+      short = tells.short;
       told_is = refl;
     })) c.refused.ensures
