@@ -1,9 +1,9 @@
 -- The forms of numbers, texts, lists and steps are prefix codes: each determines what it is of, whatever follows.
-use Rattle.std.proofs.Common.{ℕ, ◌≡◌, ◌<◌, ◌^◌, ◌+◌, List, [], ◌∷◌, ◌++◌, length, refl, sym, ap, subst, ◌∙◌, append_assoc, append-nil, arith}
+use Rattle.std.proofs.Common.{ℕ, ◌≡◌, List, [], ◌∷◌, ◌++◌, length, refl, sym, ap, ◌∙◌, append_assoc, append-nil, arith}
 use Rattle.std.specs.{List.{All, flat_map}, Int.{w64, from_le_bytes}}
 use Rattle.std.proofs.lemmas.{Nat.from_le_bytes-to_le_bytes_8, List.Elements.{All-head, All-tail}}
 use Rattle.tealmuze_c.specs.Forms.{number_bytes, text_bytes, counted_bytes, listed_bytes}
-use Rattle.tealmuze_c.specs.Readings.{Parts, parts_bytes, Reading, reading_bytes, FitsWord, IsListHeld, IsHeld}
+use Rattle.tealmuze_c.specs.Readings.{parts_bytes, Reading, reading_bytes, FitsWord, IsListHeld, IsHeld}
 
 abbrev IsCodeOn : {T : Type 0} → (T → Type 0) → (T → List ℕ) → Type 0
 IsCodeOn {T} IsValue encoding =

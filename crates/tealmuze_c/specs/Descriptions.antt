@@ -1,5 +1,5 @@
 -- What the bytes of a description describe.
-use Rattle.std.specs.Prelude.{◌≡◌, ℕ, List, [], ◌∷◌, ◌++◌, length, map, flat_map}
+use Rattle.std.specs.Prelude.{◌≡◌, ℕ, List, [], ◌∷◌, ◌++◌, map, flat_map}
 use Rattle.std.specs.List.{All}
 use Rattle.p3_challenger.specs.{SeparatorSeed.separator_of, DomainSeparator.DomainSeparator}
 use Rattle.p3_challenger.specs.Kind.{Kind}

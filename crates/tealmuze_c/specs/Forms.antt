@@ -1,5 +1,5 @@
 -- How numbers, texts, lists and values stand in descriptions and answers, and what a call writes.
-use Rattle.std.specs.Prelude.{◌≡◌, ℕ, ◌<◌, ◌≤◌, List, [], ◌∷◌, ◌++◌, length, map, flat_map, drop}
+use Rattle.std.specs.Prelude.{◌≡◌, ℕ, ◌<◌, ◌≤◌, List, [], ◌∷◌, ◌++◌, length, flat_map, drop}
 use Rattle.std.specs.Int.{w64, to_le_bytes}
 use Rattle.p3_challenger.specs.Values.{Value, Challenge}
 use Rattle.p3_challenger.specs.Values as value

@@ -1,5 +1,5 @@
 -- What the bytes of a description say, whatever suite plays it.
-use Rattle.std.specs.Prelude.{◌≡◌, ℕ, ◌<◌, ◌^◌, List, ◌∷◌, ◌++◌, length}
+use Rattle.std.specs.Prelude.{ℕ, ◌<◌, ◌^◌, List, ◌∷◌, ◌++◌, length}
 use Rattle.std.specs.List.{All}
 use Rattle.tealmuze_c.specs.Forms.{number_bytes, text_bytes, counted_bytes, listed_bytes}
 

@@ -1,5 +1,5 @@
 -- What an answer says.
-use Rattle.std.specs.Prelude.{◌≡◌, ℕ, zero, suc, ◌≤◌, List, [], ◌∷◌, ◌++◌, length, map}
+use Rattle.std.specs.Prelude.{◌≡◌, ℕ, zero, suc, ◌≤◌, List, ◌∷◌, ◌++◌, length, map}
 use Rattle.p3_challenger.specs.DomainSeparator.{DomainSeparator}
 use Rattle.p3_challenger.specs.TranscriptError.{TranscriptError, TheVariants.OutOfMemory}
 use Rattle.p3_challenger.specs.{Fronts.Run, Provings.{IsProved, RefusesToProve, IsProverRun}, Rules.Rules}

@@ -1,4 +1,4 @@
-use Rattle.std.proofs.Common.{◌≡◌, ◌<◌, ◌^◌, ℕ, length, map, arith, rules}
+use Rattle.std.proofs.Common.{◌<◌, ◌^◌, length, arith, rules}
 use Rattle.std.proofs.lemmas.{List.length-map, List.Elements.All-map}
 use Rattle.tealmuze_c.specs.Readings.{FitsWord}
 use Rattle.tealmuze_c.proofs.description.parse_chunks.Goals as goal

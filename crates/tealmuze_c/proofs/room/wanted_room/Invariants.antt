@@ -1,4 +1,4 @@
-use Rattle.std.proofs.Common.{◌≡◌, ◌-◌, ◌^◌, min, ℕ, ◌+◌, ◌*◌, take}
+use Rattle.std.proofs.Common.{◌≡◌, ◌-◌, ◌^◌, min, ◌+◌, ◌*◌, take}
 use Rattle.std.specs.List.{sum_by}
 use Rattle.tealmuze_c.specs.Rooms.{drawn_room}
 use Rattle.tealmuze_c.proofs.room.wanted_room.Given as goal

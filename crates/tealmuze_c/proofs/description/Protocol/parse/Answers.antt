@@ -1,9 +1,9 @@
-use Rattle.std.proofs.Common.{◌≡◌, ◌∷◌, ◌++◌, length, map, refl, ap, sym, subst, ◌∙◌}
+use Rattle.std.proofs.Common.{◌≡◌, ◌++◌, map, refl, ap, sym, subst, ◌∙◌}
 use Rattle.std.proofs.lemmas.{List.length-map, List.Elements.All-map}
-use Rattle.p3_challenger.specs.{PatternSteps.steps_of, Separators.Separator, SeparatorSeed.separator_of}
-use Rattle.tealmuze_c.specs.Descriptions.{parts_of, step_bytes}
+use Rattle.p3_challenger.specs.{PatternSteps.steps_of, Separators.Separator}
+use Rattle.tealmuze_c.specs.Descriptions.{parts_of}
 use Rattle.tealmuze_c.specs.Forms.{text_bytes, counted_bytes, listed_bytes}
-use Rattle.tealmuze_c.specs.Readings.{Reading, Parts, parts_bytes, reading_bytes, FitsWord, IsListHeld, IsHeld}
+use Rattle.tealmuze_c.specs.Readings.{Reading, parts_bytes, reading_bytes, FitsWord, IsListHeld, IsHeld}
 use Rattle.tealmuze_c.proofs.Lemmas.{in_a_row, listed_of}
 use Rattle.tealmuze_c.proofs.description.Protocol.parse.Goals as goal
 
