@@ -2,7 +2,7 @@
 ghost use Rattle.std.specs.Prelude.{◌≡◌, ℕ, length, map, flat_map, IfOk, IfSome};
 
 use crate::unanswered::Unanswered;
-use p3_field::{BabyBear, BasedVectorSpace, Goldilocks, PrimeCharacteristicRing, PrimeField64};
+use p3_field::{BabyBear, BasedVectorSpace, PrimeCharacteristicRing, PrimeField64};
 use std::alloc::Global;
 
 /// What a digest has so many of.
@@ -39,14 +39,6 @@ impl Word for BabyBear {
     ghost encoded = { ⟦<BabyBear as PrimeCharacteristicRing>⟧.residues.number };
 
     fn of_number(number: u64) -> Option<BabyBear> {
-        scalar(number)
-    }
-}
-
-impl Word for Goldilocks {
-    ghost encoded = { ⟦<Goldilocks as PrimeCharacteristicRing>⟧.residues.number };
-
-    fn of_number(number: u64) -> Option<Goldilocks> {
         scalar(number)
     }
 }
