@@ -1,5 +1,5 @@
 -- What an answer says.
-use Rattle.std.specs.Prelude.{◌≡◌, ℕ, zero, suc, ◌≤◌, List, ◌∷◌, ◌++◌, length, map}
+use Rattle.std.specs.{Prelude.{◌≡◌, ℕ, zero, suc, ◌<◌, ◌≤◌, List, ◌∷◌, ◌++◌, length, map}, List.All}
 use Rattle.p3_challenger.specs.DomainSeparator.{DomainSeparator}
 use Rattle.p3_challenger.specs.TranscriptError.{TranscriptError, TheVariants.OutOfMemory}
 use Rattle.p3_challenger.specs.{Fronts.Run, Provings.{IsProved, RefusesToProve, IsProverRun}, Rules.Rules}
@@ -8,6 +8,11 @@ use Rattle.p3_challenger.specs.{Scripts.play_of, ScriptRefusals.sides_of, Fault.
 use Rattle.tealmuze_c.specs.Descriptions.{Describes}
 use Rattle.tealmuze_c.specs.Forms.{number_bytes, counted_bytes, listed_bytes, scalar_bytes, value_bytes, challenge_bytes}
 use Rattle.p3_challenger.specs.Step as script
+
+-- These numbers can be carried: as many are wanted, and each is that of an element.
+pub record CanBeCarried (count order : ℕ) (carried : List ℕ) : Type 0 where
+  pub wanted : count ≡ length carried
+  pub elements : All (λ number. number < order) carried
 
 -- the bytes tell of a fault: its position, and a reason as a text; it is not that memory ran out
 pub record TellsFault (fault : Fault) (bytes : List ℕ) : Type 0 where

@@ -1,10 +1,11 @@
 //! Values that are proved by one call.
-ghost use Rattle.std.specs.Prelude.{◌≡◌, ◌<◌, ◌∷◌, ◌++◌, length, IfOk, List};
-ghost use Rattle.p3_challenger.specs.{Runs.AreAdmitted, Verdicts.script_of, Values.Value};
+ghost use Rattle.std.specs.Prelude.{◌≡◌, ◌<◌, ◌⊎◌, ◌∷◌, ◌++◌, length, IfOk, IfErr, List};
+ghost use Rattle.p3_challenger.specs.{Provings.AreHanded, Runs.AreAdmitted, Verdicts.script_of, Values.Value};
 ghost use Rattle.p3_challenger.specs.Scripts.{play_of, values_sent, challenges_of};
 ghost use Rattle.tealmuze_c.specs.Forms.{number_bytes, counted_bytes, listed_bytes, scalar_bytes};
 ghost use Rattle.tealmuze_c.specs.Forms.{value_bytes, challenge_bytes};
 ghost use Rattle.tealmuze_c.specs.{Told.TellsOfValues, Written.{ByAnswer, BySuite}};
+ghost use Rattle.tealmuze_c.specs.declared.unanswered.Unanswered.TheVariants.{OutOfMemory};
 
 use crate::answers::{put_challenges, put_counted, put_scalars};
 use crate::calls::Calls;
@@ -80,10 +81,12 @@ fn answer<S: Called>(
 ) -> Result<Vec<u8>, Unanswered>
     requires { let rules = ⟦<S as Meaning>⟧.rules S.Field.DIMENSION in
         AreAdmitted (play_of rules) protocol.now.steps.items }
-    ensures { let rules = ⟦<S as Meaning>⟧.rules S.Field.DIMENSION in
+    ensures ok { let rules = ⟦<S as Meaning>⟧.rules S.Field.DIMENSION in
         let script = script_of (S.Challenger.state challenger) protocol.now.separator protocol.now.steps.items in
         IfOk result (λ bytes. TellsOfValues rules S.Field.residues.number S.Extension.coefficients script
         (values_sent sent.now) bytes.items) }
+    ensures err { let rules = ⟦<S as Meaning>⟧.rules S.Field.DIMENSION in IfErr result (λ e. (e ≡ OutOfMemory)
+        ⊎ (AreHanded (play_of rules) protocol.now.steps.items (values_sent sent.now) → ⊥)) }
 {
     let steps = protocol.steps.as_slice();
     if !sent_matches(steps, sent) {

@@ -2,6 +2,7 @@
 ghost use Rattle.std.specs.Prelude.{◌≡◌, ℕ, ◌≤◌, List, ◌∷◌, ◌++◌, length, IfOk, IfErr};
 ghost use Rattle.p3_challenger.specs.TranscriptError.TheVariants as error;
 ghost use Rattle.tealmuze_c.specs.{Forms.number_bytes, Told.TellsFault};
+ghost use Rattle.tealmuze_c.specs.declared.unanswered.Unanswered.TheVariants.{OutOfMemory};
 
 use crate::answers::{put_number, shortened};
 use crate::unanswered::Unanswered;
@@ -17,7 +18,8 @@ pub const REFUSED: u8 = 1;
 
 /// What is told of a fault: its position, and its reason as a text. That memory ran out is no verdict.
 pub fn refused(alloc: Global, fault: &Fault) -> Result<Vec<u8>, Unanswered>
-    ensures { IfOk result (λ bytes. TellsFault fault.now bytes.items) }
+    ensures ok { IfOk result (λ bytes. TellsFault fault.now bytes.items) }
+    ensures err { IfErr result (λ e. e ≡ OutOfMemory) }
 {
     match &fault.error {
         TranscriptError::OutOfMemory => Err(Unanswered::OutOfMemory),

@@ -1,9 +1,10 @@
 //! A proof that is verified by one call.
-ghost use Rattle.std.specs.Prelude.{◌≡◌, ◌<◌, ◌∷◌, ◌++◌, length, map, IfOk};
+ghost use Rattle.std.specs.Prelude.{◌≡◌, ◌<◌, ◌⊎◌, ◌∷◌, ◌++◌, length, map, IfOk, IfErr};
 ghost use Rattle.p3_challenger.specs.{Runs.{AreAdmitted, carried_count}, Verdicts.script_of};
 ghost use Rattle.p3_challenger.specs.Scripts.{play_of, values_received, challenges_of};
 ghost use Rattle.tealmuze_c.specs.Forms.{listed_bytes, value_bytes, challenge_bytes};
-ghost use Rattle.tealmuze_c.specs.{Told.TellsOfProof, Written.{ByAnswer, BySuite}};
+ghost use Rattle.tealmuze_c.specs.{Told.{TellsOfProof, CanBeCarried}, Written.{ByAnswer, BySuite}};
+ghost use Rattle.tealmuze_c.specs.declared.unanswered.Unanswered.TheVariants.{OutOfMemory};
 
 use crate::answers::{put_challenges, put_received};
 use crate::calls::Calls;
@@ -70,8 +71,8 @@ fn verify_in<S: Called>(
 //
 // The answer's first byte is 0 exactly where `verify` accepts it, with the witnesses of these numbers; what stands after
 // it is what was received, in order, and what was drawn. It is 1 where that refuses it for another reason than memory.
-// The error is [`Unanswered::Carried`] where these numbers are not those of as many witnesses as the steps are carried,
-// and else [`Unanswered::OutOfMemory`].
+// An error is [`Unanswered::OutOfMemory`], or comes where these numbers are not those of as many witnesses as the steps
+// are carried: then it is [`Unanswered::Carried`].
 fn answer<S: Called>(
     alloc: Global,
     challenger: S::Challenger,
@@ -81,10 +82,13 @@ fn answer<S: Called>(
 ) -> Result<Vec<u8>, Unanswered>
     requires { let rules = ⟦<S as Meaning>⟧.rules S.Field.DIMENSION in
         AreAdmitted (play_of rules) protocol.now.steps.items }
-    ensures { let rules = ⟦<S as Meaning>⟧.rules S.Field.DIMENSION in
+    ensures ok { let rules = ⟦<S as Meaning>⟧.rules S.Field.DIMENSION in
         let script = script_of (S.Challenger.state challenger) protocol.now.separator protocol.now.steps.items in
         IfOk result (λ bytes. TellsOfProof rules S.Field.residues.number S.Extension.coefficients script
         proof.now carried.now bytes.items) }
+    ensures err { let rules = ⟦<S as Meaning>⟧.rules S.Field.DIMENSION in
+        let count = carried_count (play_of rules) protocol.now.steps.items in
+        IfErr result (λ e. (e ≡ OutOfMemory) ⊎ (CanBeCarried count S.Field.residues.order carried.now → ⊥)) }
 {
     let steps = protocol.steps.as_slice();
     let witnesses = witnesses::<S>(alloc, steps, carried)?;
@@ -112,6 +116,9 @@ fn witnesses<S: Called>(
         (λ witnesses. map S.Field.residues.number witnesses.items ≡ carried.now) }
     ensures count { let rules = ⟦<S as Meaning>⟧.rules S.Field.DIMENSION in IfOk result
         (λ witnesses. carried_count (play_of rules) steps.now ≡ length witnesses.items) }
+    ensures err { let rules = ⟦<S as Meaning>⟧.rules S.Field.DIMENSION in
+        let count = carried_count (play_of rules) steps.now in
+        IfErr result (λ e. (e ≡ OutOfMemory) ⊎ (CanBeCarried count S.Field.residues.order carried.now → ⊥)) }
 {
     if carried_len(steps) != carried.len() {
         return Err(Unanswered::Carried);

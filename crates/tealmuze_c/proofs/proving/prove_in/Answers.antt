@@ -29,6 +29,6 @@ returns g c =
         values = values_sent c.as_slice-2.result.now;
         encoded = c.in_ok-sent.ensures
             ∙ ap (λ sent. listed_bytes encoded (values_sent sent)) (sym c.as_slice-2.ensures.value);
-        tells = c.in_ok-bytes.ensures;
+        tells = c.in_ok-bytes.ensures.ok;
       };
     }

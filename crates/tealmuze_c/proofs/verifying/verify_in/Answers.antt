@@ -20,5 +20,5 @@ returns g c = record {
   separator = c.in_ok-protocol.protocol.separator;
   steps = c.in_ok-protocol.protocol.steps.items;
   describes = c.in_ok-protocol.ensures;
-  tells = c.in_ok-bytes.ensures;
+  tells = c.in_ok-bytes.ensures.ok;
 }
