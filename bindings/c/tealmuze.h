@@ -9,8 +9,8 @@
  *
  * An answer's first byte:
  *   0  accepted, or proved: what docs/BINDINGS.md says stands after it
- *   1  refused: the position of the step (a number), and the reason, as text up to the end
- *   2  nothing was asked that can be answered: why, as text up to the end
+ *   1  refused: the position of the step (a number), and the reason, as text up to the end, of 1000 bytes at most
+ *   2  nothing was asked that can be answered: why, as text up to the end, of 1000 bytes at most
  *   3  memory ran out: nothing stands after it
  *
  * A call writes its answer into `answer` and returns how many bytes it has. Where it returns more than `answer_len`, it

@@ -1,5 +1,5 @@
 -- Lists that grow at their ends, and bytes of them.
-use Rattle.std.proofs.Common.{Option, Some, None, Result, Ok, Err, ok_or, append-nil, ◌≡◌, ◌<◌, ◌≤◌, ◌+◌, ℕ, List, [], ◌∷◌, ◌++◌, length, map, take, take_all, get_or, refl, ap, sym, ◌∙◌, append_assoc}
+use Rattle.std.proofs.Common.{Option, Some, None, Ok, ok_or, append-nil, ◌≡◌, ◌<◌, ◌≤◌, ◌+◌, ℕ, List, [], ◌∷◌, ◌++◌, length, map, take, take_all, get_or, refl, ap, sym, ◌∙◌, append_assoc}
 use Rattle.std.specs.List.{flat_map}
 use Rattle.std.proofs.lemmas.List.{flat_map_more, map_push, map_more, length-map}
 use Rattle.tealmuze_c.specs.Forms.{number_bytes, listed_bytes}

@@ -1,12 +1,13 @@
 -- What the bytes of a description describe.
-use Rattle.std.specs.Prelude.{◌≡◌, ℕ, List, [], ◌∷◌, ◌++◌, length, map, flat_map}
+use Rattle.std.specs.Prelude.{◌≡◌, ℕ, List, [], ◌∷◌, ◌++◌, map, flat_map}
 use Rattle.std.specs.List.{All}
 use Rattle.p3_challenger.specs.{SeparatorSeed.separator_of, DomainSeparator.DomainSeparator}
 use Rattle.p3_challenger.specs.Kind.{Kind}
 use Rattle.p3_challenger.specs.PatternSteps.{steps_of}
 use Rattle.p3_challenger.specs.{Rules.Rules, Runs.{AreAdmitted, interactions}}
 use Rattle.p3_challenger.specs.Scripts.{play_of}
-use Rattle.tealmuze_c.specs.Forms.{number_bytes, text_bytes, counted_bytes, listed_bytes}
+use Rattle.tealmuze_c.specs.Forms.{listed_bytes}
+use Rattle.tealmuze_c.specs.Readings.{Parts, parts_bytes, Reading, reading_bytes, FitsWord, IsListHeld, IsHeld}
 use Rattle.p3_challenger.specs.Kind.TheVariants as kind
 use Rattle.p3_challenger.specs.Step as script
 use Rattle.p3_challenger.specs.Step.TheVariants as step
@@ -20,15 +21,6 @@ kind_number kind.Hint = 3
 kind_number kind.Challenge = 4
 kind_number kind.Pow = 5
 kind_number kind.Salt = 6
-
--- A step in a description: what it is, its label, and some numbers.
-pub record Parts : Type 0 where
-  pub what : ℕ
-  pub label : List ℕ
-  pub numbers : List ℕ
-
-abbrev pub parts_bytes : Parts → List ℕ
-parts_bytes parts = parts.what ∷ text_bytes parts.label ++ listed_bytes number_bytes parts.numbers
 
 -- an element of the extension: the numbers of its coefficients
 abbrev pub element_numbers : {F EF : Type 0} → (F → ℕ) → (EF → List F) → EF → List ℕ
@@ -86,21 +78,32 @@ module _ {Su F EF U O C K Ac D G It St Sy : Type 0} (number : F → ℕ) (coeffi
     pub label_is : (parts_of s).label ≡ label
     pub numbers_are : (parts_of s).numbers ≡ numbers
 
+  -- a step's numbers, and how many they are, have a form of 8 bytes
+  abbrev pub HasHeldParts : script.Step Su F EF U O C K Ac D G It St Sy → Type 0
+  HasHeldParts s = IsListHeld FitsWord (parts_of s).numbers
+
   -- some bytes begin with those of a step, and these come after it; and with those of steps, after their number
   pub record IsRead (bytes left : List ℕ) (s : script.Step Su F EF U O C K Ac D G It St Sy) : Type 0 where
     pub formed : HasForm s
+    pub held : HasHeldParts s
     pub begins : bytes ≡ step_bytes s ++ left
 
   pub record AreRead (bytes left : List ℕ) (steps : List (script.Step Su F EF U O C K Ac D G It St Sy)) : Type 0 where
     pub formed : All HasForm steps
+    pub held : IsListHeld HasHeldParts steps
     pub begins : bytes ≡ listed_bytes step_bytes steps ++ left
 
-  -- The bytes after the suite describe these steps under this separator: they are its version, its name, the chunks of
+  -- what a description says of a protocol
+  abbrev pub reading_of : DomainSeparator U D → List (script.Step Su F EF U O C K Ac D G It St Sy) → Reading
+  reading_of separator steps = let s = separator_of separator in
+      record { version = s.version; name = s.name; chunks = s.chunks; steps = map parts_of steps }
+
+  -- The bytes after the suite describe these steps under this separator: they say its version, its name, the chunks of
   -- its instance's label, and the steps, each of which has a form and may be played; its pattern is theirs.
   pub record Describes (rules : Rules St Sy It F EF O Ac) (bytes : List ℕ) (separator : DomainSeparator U D)
       (steps : List (script.Step Su F EF U O C K Ac D G It St Sy)) : Type 0 where
-    pub encoded : let s = separator_of separator in
-        bytes ≡ s.version ∷ text_bytes s.name ++ (listed_bytes counted_bytes s.chunks ++ listed_bytes step_bytes steps)
+    pub encoded : bytes ≡ reading_bytes (reading_of separator steps)
+    pub held : IsHeld (reading_of separator steps)
     pub formed : All HasForm steps
     pub played : interactions (play_of rules) steps ≡ steps_of (separator_of separator).pattern
     pub admitted : AreAdmitted (play_of rules) steps

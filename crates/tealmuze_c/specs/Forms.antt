@@ -1,5 +1,5 @@
 -- How numbers, texts, lists and values stand in descriptions and answers, and what a call writes.
-use Rattle.std.specs.Prelude.{◌≡◌, ℕ, ◌<◌, ◌≤◌, List, [], ◌∷◌, ◌++◌, length, map, flat_map, drop}
+use Rattle.std.specs.Prelude.{◌≡◌, ℕ, ◌<◌, ◌≤◌, List, [], ◌∷◌, ◌++◌, length, flat_map, drop}
 use Rattle.std.specs.Int.{w64, to_le_bytes}
 use Rattle.p3_challenger.specs.Values.{Value, Challenge}
 use Rattle.p3_challenger.specs.Values as value
@@ -48,9 +48,4 @@ module _ {F EF : Type 0} (number : F → ℕ) (coefficients : EF → List F) whe
 pub record IsWritten (bytes : List ℕ) (before : List ℕ) (returned : ℕ) (after : List ℕ) : Type 0 where
   pub wanted : returned ≡ length bytes
   pub fits : returned ≤ length before → after ≡ bytes ++ drop returned before
-  pub too_long : length before < returned → after ≡ before
-
--- whatever is written, no byte is changed beyond the number that is returned, and none where the room is too small
-pub record StaysWithin (before : List ℕ) (returned : ℕ) (after : List ℕ) : Type 0 where
-  pub beyond : returned ≤ length before → drop returned after ≡ drop returned before
   pub too_long : length before < returned → after ≡ before

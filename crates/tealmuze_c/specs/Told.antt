@@ -1,5 +1,5 @@
 -- What an answer says.
-use Rattle.std.specs.Prelude.{◌≡◌, ℕ, zero, suc, List, [], ◌∷◌, ◌++◌, map}
+use Rattle.std.specs.{Prelude.{◌≡◌, ℕ, zero, suc, ◌<◌, ◌≤◌, List, ◌∷◌, ◌++◌, length, map}, List.All}
 use Rattle.p3_challenger.specs.DomainSeparator.{DomainSeparator}
 use Rattle.p3_challenger.specs.TranscriptError.{TranscriptError, TheVariants.OutOfMemory}
 use Rattle.p3_challenger.specs.{Fronts.Run, Provings.{IsProved, RefusesToProve, IsProverRun}, Rules.Rules}
@@ -9,10 +9,16 @@ use Rattle.tealmuze_c.specs.Descriptions.{Describes}
 use Rattle.tealmuze_c.specs.Forms.{number_bytes, counted_bytes, listed_bytes, scalar_bytes, value_bytes, challenge_bytes}
 use Rattle.p3_challenger.specs.Step as script
 
+-- These numbers can be carried: as many are wanted, and each is that of an element.
+pub record CanBeCarried (count order : ℕ) (carried : List ℕ) : Type 0 where
+  pub wanted : count ≡ length carried
+  pub elements : All (λ number. number < order) carried
+
 -- the bytes tell of a fault: its position, and a reason as a text; it is not that memory ran out
 pub record TellsFault (fault : Fault) (bytes : List ℕ) : Type 0 where
   pub other : fault.error ≡ OutOfMemory → ⊥
   pub reason : List ℕ
+  pub short : length reason ≤ 1000
   pub told_is : bytes ≡ 1 ∷ (number_bytes fault.position ++ reason)
 
 module _ {Su F EF U O C K Ac D G It St Sy : Type 0} (rules : Rules St Sy It F EF O Ac) (number : F → ℕ)
@@ -38,6 +44,7 @@ module _ {Su F EF U O C K Ac D G It St Sy : Type 0} (rules : Rules St Sy It F EF
     pub refuses : RefusesProof rules (play_of rules) (sides_of rules) run proof witnesses position error
     pub is_none : HasNoProof rules (play_of rules) run proof witnesses
     pub reason : List ℕ
+    pub short : length reason ≤ 1000
     pub told_is : told ≡ number_bytes position ++ reason
 
   -- what an answer to a verifier says by its first byte, where it is a verdict
@@ -66,6 +73,7 @@ module _ {Su F EF U O C K Ac D G It St Sy : Type 0} (rules : Rules St Sy It F EF
     pub refuses : RefusesToProve rules (play_of rules) (sides_of rules) run sent position error
     pub is_none : (values : List (Value F EF)) → IsProverRun rules (play_of rules) (with_steps run run.steps values) sent → ⊥
     pub reason : List ℕ
+    pub short : length reason ≤ 1000
     pub told_is : told ≡ number_bytes position ++ reason
 
   -- what an answer to a prover says by its first byte, where it is a verdict
@@ -85,6 +93,14 @@ module _ (Su U C K D G : Type 0) {F EF O Ac It St Sy : Type 0} (rules : Rules St
     pub steps : List (script.Step Su F EF U O C K Ac D G It St Sy)
     pub describes : Describes number coefficients opaque_numbers rules bytes separator steps
     pub tells : Tells (script_of start separator steps)
+
+  -- The bytes describe a protocol, and for an answer of its steps so many bytes are wanted.
+  pub record WantsForDescribed (bytes : List ℕ)
+      (room : List (script.Step Su F EF U O C K Ac D G It St Sy) → ℕ) (wanted : ℕ) : Type 0 where
+    pub separator : DomainSeparator U D
+    pub steps : List (script.Step Su F EF U O C K Ac D G It St Sy)
+    pub describes : Describes number coefficients opaque_numbers rules bytes separator steps
+    pub wanted_is : wanted ≡ room steps
 
 -- The bytes encode values, of which this is told.
 pub record EncodesValues {F EF : Type 0} (number : F → ℕ) (coefficients : EF → List F) (bytes : List ℕ)

@@ -1,5 +1,5 @@
 //! How numbers and values are written.
-ghost use Rattle.std.specs.Prelude.{◌≡◌, ℕ, ◌∷◌, ◌++◌, length, map, flat_map, OnOk};
+ghost use Rattle.std.specs.Prelude.{◌≡◌, ℕ, ◌≤◌, ◌∷◌, ◌++◌, length, map, flat_map, OnOk};
 ghost use Rattle.p3_challenger.specs.Scripts.{value_received, challenge_of, values_received, challenges_of};
 ghost use Rattle.tealmuze_c.specs.Forms.{number_bytes, counted_bytes, listed_bytes, scalar_bytes, element_bytes};
 ghost use Rattle.tealmuze_c.specs.Forms.{value_bytes, challenge_bytes};
@@ -7,6 +7,9 @@ ghost use Rattle.tealmuze_c.specs.Forms.{value_bytes, challenge_bytes};
 use p3_challenger::fs::script::{Drawn, Received, Suite};
 use p3_field::{BasedVectorSpace, PrimeField64};
 use std::alloc::AllocError;
+
+// How many bytes of the text of a reason an answer has, at most.
+const LONGEST: usize = 1000;
 
 /// Adds a number.
 pub fn put_number(to: &mut Vec<u8>, number: u64) -> Result<(), AllocError>
@@ -30,6 +33,17 @@ pub fn put_scalars<F: PrimeField64>(to: &mut Vec<u8>, scalars: &[F]) -> Result<(
 {
     put_number(to, scalars.len() as u64)?;
     put_each(to, scalars)
+}
+
+/// Returns the first bytes of the text of a reason, for which each answer has room.
+pub fn shortened(text: &[u8]) -> &[u8]
+    ensures { length result.now ≤ 1000 }
+{
+    if text.len() <= LONGEST {
+        text
+    } else {
+        &text[..LONGEST]
+    }
 }
 
 // Adds scalars.

@@ -1,6 +1,7 @@
 //! Bytes that are read from the front.
 ghost use Rattle.std.specs.Prelude.{◌≡◌, ◌∷◌, ◌++◌, [], length, map, IfOk, IsTrue, flat_map};
 ghost use Rattle.tealmuze_c.specs.Forms.{number_bytes, text_bytes, counted_bytes, listed_bytes};
+ghost use Rattle.tealmuze_c.specs.Readings.{FitsWord, IsListHeld};
 
 use crate::unanswered::Unanswered;
 use std::alloc::Global;
@@ -61,7 +62,8 @@ impl<'a> Cursor<'a> {
 
     /// The next bytes, after their number.
     pub fn counted(&mut self) -> Result<&'a [u8], Unanswered>
-        ensures { IfOk result (λ bytes. self.old.left.now ≡ counted_bytes bytes.now ++ self.new.left.now) }
+        ensures held { IfOk result (λ bytes. FitsWord (length bytes.now)) }
+        ensures read { IfOk result (λ bytes. self.old.left.now ≡ counted_bytes bytes.now ++ self.new.left.now) }
     {
         let count = self.number()?;
         self.bytes(count as usize)
@@ -81,7 +83,8 @@ impl<'a> Cursor<'a> {
 
     /// The next numbers, after how many they are.
     pub fn numbers(&mut self, alloc: Global) -> Result<Vec<u64>, Unanswered>
-        ensures { IfOk result (λ numbers.
+        ensures held { IfOk result (λ numbers. IsListHeld FitsWord numbers.items) }
+        ensures read { IfOk result (λ numbers.
             self.old.left.now ≡ listed_bytes number_bytes numbers.items ++ self.new.left.now) }
     {
         let count = self.number()?;
@@ -90,6 +93,7 @@ impl<'a> Cursor<'a> {
 
     /// The next numbers, so many.
     pub fn so_many(&mut self, alloc: Global, count: usize) -> Result<Vec<u64>, Unanswered>
+        ensures held { IfOk result (λ numbers. IsListHeld FitsWord numbers.items) }
         ensures read { IfOk result (λ numbers.
             self.old.left.now ≡ flat_map number_bytes numbers.items ++ self.new.left.now) }
         ensures count { IfOk result (λ numbers. length numbers.items ≡ count) }

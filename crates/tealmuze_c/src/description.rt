@@ -1,17 +1,16 @@
 //! A protocol, as its description has it.
-ghost use Rattle.std.specs.Prelude.{◌≡◌, ◌++◌, map, IfOk};
+ghost use Rattle.std.specs.Prelude.{◌≡◌, ◌++◌, length, map, IfOk};
 ghost use Rattle.p3_challenger.specs.{PatternSteps.steps_of, Runs.{AreAdmitted, interactions}, Scripts.play_of};
 ghost use Rattle.p3_challenger.specs.SeparatorSeed.{separator_of};
-ghost use Rattle.tealmuze_c.specs.Forms.{counted_bytes, listed_bytes};
+ghost use Rattle.tealmuze_c.specs.{Forms.{counted_bytes, listed_bytes}, Readings.{FitsWord, IsListHeld}};
 ghost use Rattle.tealmuze_c.specs.Descriptions.{Describes, IsRead, AreRead};
 
 use crate::cursor::Cursor;
-use crate::recording::pattern;
 use crate::steps::parse_step;
 use crate::suites::{Called, SeparatorOf};
 use crate::unanswered::Unanswered;
 use p3_challenger::Sponge;
-use p3_challenger::fs::script::{Meaning, Step, fits};
+use p3_challenger::fs::script::{Meaning, Step, admitted, pattern};
 use p3_challenger::fs::{DomainSeparator, InteractionPattern, TranscriptError};
 use std::alloc::Global;
 
@@ -48,8 +47,10 @@ impl<S: Called> Protocol<S> {
 
 // The chunks of the instance's label.
 fn parse_chunks(alloc: Global, from: &mut Cursor<'static>) -> Result<Vec<&'static [u8]>, Unanswered>
-    ensures { IfOk result (λ chunks. from.old.left.now
+    ensures read { IfOk result (λ chunks. from.old.left.now
         ≡ listed_bytes counted_bytes (map (λ chunk. chunk.now) chunks.items) ++ from.new.left.now) }
+    ensures held { IfOk result (λ chunks. IsListHeld (λ chunk. FitsWord (length chunk))
+        (map (λ chunk. chunk.now) chunks.items)) }
 {
     let count = from.number()?;
     let mut chunks = Vec::new(alloc);
@@ -107,7 +108,7 @@ fn played_pattern<S: Called>(
         Err(TranscriptError::OutOfMemory) => return Err(Unanswered::OutOfMemory),
         Err(_) => return Err(Unanswered::NoPattern),
     };
-    if !fits(steps, &found) {
+    if !admitted(steps) {
         return Err(Unanswered::NotPlayed);
     }
     Ok(found)

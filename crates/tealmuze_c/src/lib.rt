@@ -6,13 +6,15 @@
 //! nothing was verified or proved yet: the caller gives that many and calls again.
 #![tactic(auto)]
 
-ghost use Rattle.tealmuze_c.specs.Forms.{StaysWithin};
+ghost use Rattle.std.specs.Prelude.{length};
+ghost use Rattle.tealmuze_c.specs.Written.{Answers, BySuite};
 
 mod answers;
+mod calls;
 mod cursor;
 mod description;
 mod proving;
-mod recording;
+mod readings;
 mod room;
 mod steps;
 mod suites;
@@ -23,8 +25,12 @@ mod verdicts;
 mod verifying;
 mod words;
 
+use crate::calls::Calls;
+pub use crate::readings::description_has_one_reading;
 use crate::telling::tell;
+use p3_symmetric::Sha256Hasher;
 use std::alloc::Global;
+use test_suites::{HashSuite, Serializing32Suite};
 
 /// Verifies a proof of the protocol that the description has, with the witnesses that its `observe_pow` steps are
 /// carried.
@@ -41,10 +47,15 @@ pub extern "C" fn tealmuze_verify(
     carried: &[u64],
     answer: &mut [u8],
 ) -> usize
-    ensures { StaysWithin answer.old result answer.new }
+    ensures { Answers (BySuite
+        (⟦<HashSuite<Sha256Hasher> as Calls>⟧.tells_of_proof 1 proof.now carried.now)
+        (⟦<Serializing32Suite as Calls>⟧.tells_of_proof 1 proof.now carried.now) description.now)
+        (BySuite (⟦<HashSuite<Sha256Hasher> as Calls>⟧.wants_room 1 4 (length proof.now))
+        (⟦<Serializing32Suite as Calls>⟧.wants_room 1 4 (length proof.now)) description.now)
+        answer.old result answer.new }
 {
-    let told = verifying::verify(alloc, description, proof, carried, answer.len());
-    tell(alloc, told, answer)
+    let found = verifying::verify(alloc, description, proof, carried, answer.len());
+    tell(alloc, found, answer)
 }
 
 /// Proves the protocol that the description has, with these values, which are encoded as `tealmuze_verify` encodes those
@@ -59,8 +70,13 @@ pub extern "C" fn tealmuze_prove(
     values: &[u8],
     answer: &mut [u8],
 ) -> usize
-    ensures { StaysWithin answer.old result answer.new }
+    ensures { Answers (BySuite
+        (⟦<HashSuite<Sha256Hasher> as Calls>⟧.tells_of_values 1 values.now)
+        (⟦<Serializing32Suite as Calls>⟧.tells_of_values 1 values.now) description.now)
+        (BySuite (⟦<HashSuite<Sha256Hasher> as Calls>⟧.wants_room 1 4 (length values.now))
+        (⟦<Serializing32Suite as Calls>⟧.wants_room 1 4 (length values.now)) description.now)
+        answer.old result answer.new }
 {
-    let told = proving::prove(alloc, description, values, answer.len());
-    tell(alloc, told, answer)
+    let found = proving::prove(alloc, description, values, answer.len());
+    tell(alloc, found, answer)
 }

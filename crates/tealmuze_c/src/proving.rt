@@ -1,16 +1,19 @@
 //! Values that are proved by one call.
-ghost use Rattle.std.specs.Prelude.{◌≡◌, ◌∷◌, ◌++◌, IfOk, List};
-ghost use Rattle.p3_challenger.specs.{Runs.AreAdmitted, Verdicts.script_of, Values.Value};
+ghost use Rattle.std.specs.Prelude.{◌≡◌, ◌<◌, ◌⊎◌, ◌∷◌, ◌++◌, length, IfOk, IfErr, List};
+ghost use Rattle.p3_challenger.specs.{Provings.AreHanded, Runs.AreAdmitted, Verdicts.script_of, Values.Value};
 ghost use Rattle.p3_challenger.specs.Scripts.{play_of, values_sent, challenges_of};
 ghost use Rattle.tealmuze_c.specs.Forms.{number_bytes, counted_bytes, listed_bytes, scalar_bytes};
 ghost use Rattle.tealmuze_c.specs.Forms.{value_bytes, challenge_bytes};
-ghost use Rattle.tealmuze_c.specs.Told.{TellsOfValues, TellsOfDescribed, EncodesValues};
+ghost use Rattle.tealmuze_c.specs.{Told.TellsOfValues, Written.{ByAnswer, BySuite}};
+ghost use Rattle.tealmuze_c.specs.declared.unanswered.Unanswered.TheVariants.{OutOfMemory};
 
 use crate::answers::{put_challenges, put_counted, put_scalars};
+use crate::calls::Calls;
 use crate::cursor::Cursor;
 use crate::description::Protocol;
-use crate::room::check_room;
+use crate::room::wanted_room;
 use crate::suites::Called;
+use crate::telling::Answer;
 use crate::unanswered::Unanswered;
 use crate::values::parse_values;
 use crate::verdicts::{DONE, refused};
@@ -20,13 +23,21 @@ use p3_symmetric::Sha256Hasher;
 use std::alloc::{AllocError, Global};
 use test_suites::{HashSuite, Serializing32Suite};
 
-/// Proves values, and answers what is told of them. `room` bytes are given for it.
+/// Proves values, and answers what is told of them. `room` bytes are given for it: where the answer may have more,
+/// nothing is proved.
 pub fn prove(
     alloc: Global,
     description: &'static [u8],
     values: &[u8],
     room: usize,
-) -> Result<Vec<u8>, Unanswered> {
+) -> Result<Answer, Unanswered>
+    ensures { IfOk result (ByAnswer (BySuite
+        (⟦<HashSuite<Sha256Hasher> as Calls>⟧.tells_of_values 1 values.now)
+        (⟦<Serializing32Suite as Calls>⟧.tells_of_values 1 values.now) description.now)
+        (λ wanted. BySuite (⟦<HashSuite<Sha256Hasher> as Calls>⟧.wants_room 1 4 (length values.now))
+        (⟦<Serializing32Suite as Calls>⟧.wants_room 1 4 (length values.now)) description.now wanted
+        × room < wanted)) }
+{
     let mut from = Cursor::new(description);
     match from.byte()? {
         0 => prove_in::<HashSuite<Sha256Hasher>>(alloc, from, values, room),
@@ -41,19 +52,19 @@ fn prove_in<S: Called>(
     from: Cursor<'static>,
     values: &[u8],
     room: usize,
-) -> Result<Vec<u8>, Unanswered>
-    ensures { let rules = ⟦<S as Meaning>⟧.rules S.Field.DIMENSION in
-        IfOk result (λ bytes. TellsOfDescribed S S.Unit S.Challenger S.Codec S.Digest S.Group
-        rules S.Field.residues.number S.Extension.coefficients S.opaque_numbers S.is_fresh
-        from.entry.left.now
-        (λ run. EncodesValues S.Field.residues.number S.Extension.coefficients values.now
-        (λ sent. TellsOfValues rules S.Field.residues.number S.Extension.coefficients run sent
-        bytes.items))) }
+) -> Result<Answer, Unanswered>
+    ensures { IfOk result (ByAnswer (⟦<S as Calls>⟧.tells_of_values S.Field.DIMENSION values.now
+        from.entry.left.now) (λ wanted. ⟦<S as Calls>⟧.wants_room S.Field.DIMENSION
+        S.Extension.DIMENSION (length values.now) from.entry.left.now wanted × room < wanted)) }
 {
     let protocol = Protocol::<S>::parse(alloc, from)?;
-    check_room(protocol.steps.as_slice(), values.len(), room)?;
+    let wanted = wanted_room(protocol.steps.as_slice(), values.len());
+    if wanted > room {
+        return Ok(Answer::Wants(wanted));
+    }
     let sent = parse_values::<S>(alloc, values)?;
-    answer(alloc, S::fresh(alloc), &protocol, sent.as_slice())
+    let bytes = answer(alloc, S::fresh(alloc), &protocol, sent.as_slice())?;
+    Ok(Answer::Told(bytes))
 }
 
 // Proves values of the protocol.
@@ -70,10 +81,12 @@ fn answer<S: Called>(
 ) -> Result<Vec<u8>, Unanswered>
     requires { let rules = ⟦<S as Meaning>⟧.rules S.Field.DIMENSION in
         AreAdmitted (play_of rules) protocol.now.steps.items }
-    ensures { let rules = ⟦<S as Meaning>⟧.rules S.Field.DIMENSION in
+    ensures ok { let rules = ⟦<S as Meaning>⟧.rules S.Field.DIMENSION in
         let script = script_of (S.Challenger.state challenger) protocol.now.separator protocol.now.steps.items in
         IfOk result (λ bytes. TellsOfValues rules S.Field.residues.number S.Extension.coefficients script
         (values_sent sent.now) bytes.items) }
+    ensures err { let rules = ⟦<S as Meaning>⟧.rules S.Field.DIMENSION in IfErr result (λ e. (e ≡ OutOfMemory)
+        ⊎ (AreHanded (play_of rules) protocol.now.steps.items (values_sent sent.now) → ⊥)) }
 {
     let steps = protocol.steps.as_slice();
     if !sent_matches(steps, sent) {

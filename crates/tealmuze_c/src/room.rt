@@ -1,5 +1,8 @@
 //! How many bytes an answer may have.
-use crate::unanswered::Unanswered;
+ghost use Rattle.std.specs.Prelude.{◌≡◌, ◌-◌, ◌^◌, min};
+ghost use Rattle.tealmuze_c.specs.Rooms.{drawn_room, room_for};
+
+use p3_challenger::Sponge;
 use p3_challenger::fs::script::{Step, Suite};
 use p3_field::BasedVectorSpace;
 
@@ -13,21 +16,21 @@ const EACH: usize = 40;
 // any width has room.
 const FOR_A_BYTE: usize = 8;
 
-/// Refuses to play the steps where the answer may have more bytes than there is room for, so that nothing is played twice:
-/// with so many bytes of a proof or of values.
-pub fn check_room<S: Suite>(steps: &[Step<S>], len: usize, room: usize) -> Result<(), Unanswered> {
+/// Returns how many bytes the answer may have, with so many bytes of a proof or of values.
+pub fn wanted_room<S: Suite>(steps: &[Step<S>], len: usize) -> usize
+    ensures { result ≡ room_for S.Extension.DIMENSION steps.now len }
+{
     let mut wanted = HEAD.saturating_add(len.saturating_mul(FOR_A_BYTE));
     for step in steps {
-        wanted = wanted.saturating_add(EACH).saturating_add(drawn_room(step));
+        wanted = wanted.saturating_add(EACH).saturating_add(drawn(step));
     }
-    if wanted > room {
-        return Err(Unanswered::Room(wanted));
-    }
-    Ok(())
+    wanted
 }
 
 // How many bytes there are for what a step draws.
-fn drawn_room<S: Suite>(step: &Step<S>) -> usize {
+fn drawn<S: Suite>(step: &Step<S>) -> usize
+    ensures { result ≡ min (drawn_room S.Extension.DIMENSION step.now) (2 ^ 64 - 1) }
+{
     let element = S::Extension::DIMENSION * 8;
     match step {
         Step::ChallengeScalar { .. } => 8,

@@ -11,9 +11,6 @@ pub enum Unanswered {
     /// Memory ran out.
     #[error("out of memory")]
     OutOfMemory,
-    /// The answer may have so many bytes, and less room was given.
-    #[error("the answer may have {0} bytes")]
-    Room(usize),
     /// No suite has this number.
     #[error("suite {0}: unknown")]
     Suite(u8),

@@ -1,15 +1,18 @@
 //! A proof that is verified by one call.
-ghost use Rattle.std.specs.Prelude.{◌≡◌, ◌∷◌, ◌++◌, length, map, IfOk};
+ghost use Rattle.std.specs.Prelude.{◌≡◌, ◌<◌, ◌⊎◌, ◌∷◌, ◌++◌, length, map, IfOk, IfErr};
 ghost use Rattle.p3_challenger.specs.{Runs.{AreAdmitted, carried_count}, Verdicts.script_of};
 ghost use Rattle.p3_challenger.specs.Scripts.{play_of, values_received, challenges_of};
 ghost use Rattle.tealmuze_c.specs.Forms.{listed_bytes, value_bytes, challenge_bytes};
-ghost use Rattle.tealmuze_c.specs.Told.{TellsOfProof, TellsOfDescribed};
+ghost use Rattle.tealmuze_c.specs.{Told.{TellsOfProof, CanBeCarried}, Written.{ByAnswer, BySuite}};
+ghost use Rattle.tealmuze_c.specs.declared.unanswered.Unanswered.TheVariants.{OutOfMemory};
 
 use crate::answers::{put_challenges, put_received};
+use crate::calls::Calls;
 use crate::cursor::Cursor;
 use crate::description::Protocol;
-use crate::room::check_room;
+use crate::room::wanted_room;
 use crate::suites::Called;
+use crate::telling::Answer;
 use crate::unanswered::Unanswered;
 use crate::verdicts::{DONE, refused};
 use crate::words::scalars;
@@ -19,14 +22,22 @@ use p3_symmetric::Sha256Hasher;
 use std::alloc::{AllocError, Global};
 use test_suites::{HashSuite, Serializing32Suite};
 
-/// Verifies a proof, and answers what is told of it. `room` bytes are given for it.
+/// Verifies a proof, and answers what is told of it. `room` bytes are given for it: where the answer may have more,
+/// nothing is verified.
 pub fn verify(
     alloc: Global,
     description: &'static [u8],
     proof: &[u8],
     carried: &[u64],
     room: usize,
-) -> Result<Vec<u8>, Unanswered> {
+) -> Result<Answer, Unanswered>
+    ensures { IfOk result (ByAnswer (BySuite
+        (⟦<HashSuite<Sha256Hasher> as Calls>⟧.tells_of_proof 1 proof.now carried.now)
+        (⟦<Serializing32Suite as Calls>⟧.tells_of_proof 1 proof.now carried.now) description.now)
+        (λ wanted. BySuite (⟦<HashSuite<Sha256Hasher> as Calls>⟧.wants_room 1 4 (length proof.now))
+        (⟦<Serializing32Suite as Calls>⟧.wants_room 1 4 (length proof.now)) description.now wanted
+        × room < wanted)) }
+{
     let mut from = Cursor::new(description);
     match from.byte()? {
         0 => verify_in::<HashSuite<Sha256Hasher>>(alloc, from, proof, carried, room),
@@ -42,25 +53,26 @@ fn verify_in<S: Called>(
     proof: &[u8],
     carried: &[u64],
     room: usize,
-) -> Result<Vec<u8>, Unanswered>
-    ensures { let rules = ⟦<S as Meaning>⟧.rules S.Field.DIMENSION in
-        IfOk result (λ bytes. TellsOfDescribed S S.Unit S.Challenger S.Codec S.Digest S.Group
-        rules S.Field.residues.number S.Extension.coefficients S.opaque_numbers S.is_fresh
-        from.entry.left.now
-        (λ run. TellsOfProof rules S.Field.residues.number S.Extension.coefficients run
-        proof.now carried.now bytes.items)) }
+) -> Result<Answer, Unanswered>
+    ensures { IfOk result (ByAnswer (⟦<S as Calls>⟧.tells_of_proof S.Field.DIMENSION proof.now
+        carried.now from.entry.left.now) (λ wanted. ⟦<S as Calls>⟧.wants_room S.Field.DIMENSION
+        S.Extension.DIMENSION (length proof.now) from.entry.left.now wanted × room < wanted)) }
 {
     let protocol = Protocol::<S>::parse(alloc, from)?;
-    check_room(protocol.steps.as_slice(), proof.len(), room)?;
-    answer(alloc, S::fresh(alloc), &protocol, proof, carried)
+    let wanted = wanted_room(protocol.steps.as_slice(), proof.len());
+    if wanted > room {
+        return Ok(Answer::Wants(wanted));
+    }
+    let bytes = answer(alloc, S::fresh(alloc), &protocol, proof, carried)?;
+    Ok(Answer::Told(bytes))
 }
 
 // Verifies a proof of the protocol.
 //
 // The answer's first byte is 0 exactly where `verify` accepts it, with the witnesses of these numbers; what stands after
 // it is what was received, in order, and what was drawn. It is 1 where that refuses it for another reason than memory.
-// The error is [`Unanswered::Carried`] where these numbers are not those of as many witnesses as the steps are carried,
-// and else [`Unanswered::OutOfMemory`].
+// An error is [`Unanswered::OutOfMemory`], or comes where these numbers are not those of as many witnesses as the steps
+// are carried: then it is [`Unanswered::Carried`].
 fn answer<S: Called>(
     alloc: Global,
     challenger: S::Challenger,
@@ -70,10 +82,13 @@ fn answer<S: Called>(
 ) -> Result<Vec<u8>, Unanswered>
     requires { let rules = ⟦<S as Meaning>⟧.rules S.Field.DIMENSION in
         AreAdmitted (play_of rules) protocol.now.steps.items }
-    ensures { let rules = ⟦<S as Meaning>⟧.rules S.Field.DIMENSION in
+    ensures ok { let rules = ⟦<S as Meaning>⟧.rules S.Field.DIMENSION in
         let script = script_of (S.Challenger.state challenger) protocol.now.separator protocol.now.steps.items in
         IfOk result (λ bytes. TellsOfProof rules S.Field.residues.number S.Extension.coefficients script
         proof.now carried.now bytes.items) }
+    ensures err { let rules = ⟦<S as Meaning>⟧.rules S.Field.DIMENSION in
+        let count = carried_count (play_of rules) protocol.now.steps.items in
+        IfErr result (λ e. (e ≡ OutOfMemory) ⊎ (CanBeCarried count S.Field.residues.order carried.now → ⊥)) }
 {
     let steps = protocol.steps.as_slice();
     let witnesses = witnesses::<S>(alloc, steps, carried)?;
@@ -101,6 +116,9 @@ fn witnesses<S: Called>(
         (λ witnesses. map S.Field.residues.number witnesses.items ≡ carried.now) }
     ensures count { let rules = ⟦<S as Meaning>⟧.rules S.Field.DIMENSION in IfOk result
         (λ witnesses. carried_count (play_of rules) steps.now ≡ length witnesses.items) }
+    ensures err { let rules = ⟦<S as Meaning>⟧.rules S.Field.DIMENSION in
+        let count = carried_count (play_of rules) steps.now in
+        IfErr result (λ e. (e ≡ OutOfMemory) ⊎ (CanBeCarried count S.Field.residues.order carried.now → ⊥)) }
 {
     if carried_len(steps) != carried.len() {
         return Err(Unanswered::Carried);

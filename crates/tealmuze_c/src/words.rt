@@ -1,8 +1,10 @@
 //! Scalars, elements of the extension and digests, by their numbers.
-ghost use Rattle.std.specs.Prelude.{◌≡◌, ℕ, length, map, flat_map, IfOk, IfSome};
+ghost use Rattle.std.specs.Prelude.{◌≡◌, ℕ, ◌<◌, ◌≤◌, ◌⊎◌, length, map, flat_map, IfOk, IfErr, IfSome, IfNone};
+ghost use Rattle.std.specs.List.{All};
+ghost use Rattle.tealmuze_c.specs.declared.unanswered.Unanswered.TheVariants.{OutOfMemory};
 
 use crate::unanswered::Unanswered;
-use p3_field::{BabyBear, BasedVectorSpace, Goldilocks, PrimeCharacteristicRing, PrimeField64};
+use p3_field::{BabyBear, BasedVectorSpace, PrimeCharacteristicRing, PrimeField64};
 use std::alloc::Global;
 
 /// What a digest has so many of.
@@ -43,24 +45,19 @@ impl Word for BabyBear {
     }
 }
 
-impl Word for Goldilocks {
-    ghost encoded = { ⟦<Goldilocks as PrimeCharacteristicRing>⟧.residues.number };
-
-    fn of_number(number: u64) -> Option<Goldilocks> {
-        scalar(number)
-    }
-}
-
 /// The scalar of a number below the order.
 pub fn scalar<F: PrimeField64>(number: u64) -> Option<F>
-    ensures { IfSome result (λ x. F.residues.number x ≡ number) }
+    ensures some { IfSome result (λ x. F.residues.number x ≡ number) }
+    ensures none { IfNone result (F.residues.order ≤ number) }
 {
     F::from_canonical_checked(number)
 }
 
 /// The scalars of numbers.
 pub fn scalars<F: PrimeField64>(alloc: Global, numbers: &[u64]) -> Result<Vec<F>, Unanswered>
-    ensures { IfOk result (λ scalars. map F.residues.number scalars.items ≡ numbers.now) }
+    ensures ok { IfOk result (λ scalars. map F.residues.number scalars.items ≡ numbers.now) }
+    ensures err { IfErr result (λ e. (e ≡ OutOfMemory)
+        ⊎ (All (λ number. number < F.residues.order) numbers.now → ⊥)) }
 {
     let mut scalars = Vec::new(alloc);
     for number in numbers {

@@ -1,6 +1,6 @@
 use Rattle.std.proofs.Common.{◌≡◌, ◌++◌, length, map}
-use Rattle.std.specs.List.{flat_map}
-use Rattle.tealmuze_c.specs.Forms.{counted_bytes}
+use Rattle.std.specs.List.{All, flat_map}
+use Rattle.tealmuze_c.specs.{Forms.counted_bytes, Readings.FitsWord}
 use Rattle.tealmuze_c.proofs.description.parse_chunks.Given as goal
 
 -- so many are read
@@ -10,4 +10,5 @@ invariant-loop-read l =
       so_far : l.initial.from.left.now
           ≡ flat_map counted_bytes (map (λ chunk. chunk.now) l.chunks.items) ++ l.from.left.now;
       count : length l.chunks.items ≡ l.read;
+      held : All (λ chunk. FitsWord (length chunk.now)) l.chunks.items;
     }

@@ -1,6 +1,6 @@
 use Rattle.std.proofs.Common.{◌≡◌, ◌++◌, length}
 use Rattle.std.specs.List.{All, flat_map}
-use Rattle.tealmuze_c.specs.Descriptions.{HasForm, step_bytes}
+use Rattle.tealmuze_c.specs.Descriptions.{HasForm, HasHeldParts, step_bytes}
 use Rattle.tealmuze_c.proofs.description.parse_steps.Given as goal
 
 -- so many are read
@@ -10,6 +10,7 @@ invariant-loop-position g l =
     let coefficients = g.S.Extension.BasedVectorSpace.coefficients in
     record {
       formed : All (HasForm number coefficients g.S.Called.opaque_numbers) l.steps.items;
+      held : All (HasHeldParts number coefficients g.S.Called.opaque_numbers) l.steps.items;
       so_far : l.initial.from.left.now
           ≡ flat_map (step_bytes number coefficients g.S.Called.opaque_numbers) l.steps.items ++ l.from.left.now;
       count : length l.steps.items ≡ l.position;

@@ -9,8 +9,8 @@ returns-in_ok-scalars-in-2 g c =
     let number = g.S.Field.PrimeCharacteristicRing.residues.number in
     let left = c.numbers.new.self.left.now in
     c.in_ok-byte.ensures ∙ ap (λ b. b ∷ c.byte.new.self.left.now) c.in-2.is
-    ∙ ap (λ m. 2 ∷ m) (c.in_ok-numbers-in-2.ensures
-    ∙ ap (λ ns. listed_bytes number_bytes ns ++ left) (sym c.as_slice.ensures.value ∙ sym c.in_ok-scalars-in-2.ensures)
+    ∙ ap (λ m. 2 ∷ m) (c.in_ok-numbers-in-2.ensures.read
+    ∙ ap (λ ns. listed_bytes number_bytes ns ++ left) (sym c.as_slice.ensures.value ∙ sym c.in_ok-scalars-in-2.ensures.ok)
     ∙ ap (λ b. b ++ left) (listed_of number number_bytes c.in_ok-scalars-in-2.field-0.items))
 
 -- an element of the extension
