@@ -1,6 +1,7 @@
 -- A verifier that stands before the small protocol, with the bytes of a run next.
 use Rattle.std.proofs.Common.{◌≡◌, ℕ, ◌+◌, false, List, [], ◌∷◌, ◌++◌, Option, Some, slice_get, codes, append_assoc}
 use Rattle.std.proofs.Common.{append-nil, length, Result, Ok, Err, OnOk, refl, ap, sym, subst, ◌∙◌}
+use Rattle.p3_challenger.specs.AheadLaws.{next-at}
 use Rattle.p3_challenger.specs.{Playing.Playing, TranscriptError.TheVariants.OutOfMemory}
 use Rattle.p3_challenger.specs.{CompletenessLaws.step-completes, Verifying.{EndsReading, Receives, RefusesToRead}}
 use Rattle.p3_challenger.specs.{PatternSteps.PatternSteps, OneReason.{OnlyMemoryRefuses, OnlyMemoryRefusesToRead}}
