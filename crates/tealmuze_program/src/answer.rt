@@ -16,11 +16,13 @@ use p3_keccak::Keccak256Hasher;
 use script_lines::playing::{prove_steps, verify_steps};
 use std::alloc::Global;
 use tealmuze_text::answers::{
-    Answer, BegunShown, PatternShown, ProofShown, UnprovedShown, VerdictShown, written,
+    Answer, BegunShown, CodeShown, PatternShown, ProofShown, UnprovedShown, VerdictShown, written,
 };
+use tealmuze_text::code::code;
 use tealmuze_text::command::{Command, Request};
 use tealmuze_text::entry::{Entry, parse_table};
 use tealmuze_text::proofs::{copied, proof_of};
+use tealmuze_text::suite_code::SuiteCode;
 use test_suites::{
     BabyBearPoseidon2Suite, GoldilocksPoseidon2Suite, HashSuite, MultiFieldPoseidon2Suite,
     Serializing32Suite, Serializing64Suite,
@@ -88,7 +90,7 @@ fn answer_in<S: Told>(
     second: &[u8],
 ) -> Result<Answer> {
     let protocol = Protocol::<S>::parse(alloc, file).context(request.file)?;
-    let mut answer = answer_command(alloc, request, &protocol, second)?;
+    let mut answer = answer_command(alloc, request, file, &protocol, second)?;
     answer.warnings = warnings(alloc, protocol.steps.as_slice(), protocol.names.as_slice())?;
     Ok(answer)
 }
@@ -96,6 +98,7 @@ fn answer_in<S: Told>(
 fn answer_command<S: Told>(
     alloc: Global,
     request: &Request<'_>,
+    file: Entry<'_>,
     protocol: &Protocol<'_, S>,
     second: &[u8],
 ) -> Result<Answer> {
@@ -104,6 +107,7 @@ fn answer_command<S: Told>(
         Command::Prove => answer_prove(alloc, request, protocol, second),
         Command::Verify => answer_verify(alloc, request, protocol, second),
         Command::Explain => answer_explain(alloc, request, protocol, second),
+        Command::Rust => answer_rust(alloc, request, file),
     }
 }
 
@@ -131,6 +135,16 @@ fn seed_of<S: Told>(alloc: Global, protocol: &Protocol<'_, S>) -> Result<Option<
     let mut challenger = S::fresh(alloc)?;
     protocol.separator.seed(&mut challenger)?;
     digits(alloc, S::pending(&challenger))
+}
+
+// The code of the protocol, which was read before: it is one that its suite plays.
+fn answer_rust(alloc: Global, request: &Request<'_>, file: Entry<'_>) -> Result<Answer> {
+    let suite = SuiteCode::named(file.text("suite")?)?;
+    let shown = CodeShown {
+        code: code(alloc, suite, file)?,
+    };
+    let text = String::from_str(alloc, &shown.code)?;
+    written(alloc, request, &shown, text, 0)
 }
 
 fn answer_prove<S: Told>(

@@ -74,6 +74,19 @@ impl ToJson for PatternShown {
     }
 }
 
+/// A protocol as code.
+#[derive(Drop)]
+pub struct CodeShown {
+    /// The text of a file.
+    pub code: String,
+}
+
+impl ToJson for CodeShown {
+    fn json(&self, alloc: Global) -> Result<String> {
+        Object::new(alloc).member("code", &self.code).close()
+    }
+}
+
 /// A proof, and what its prover found and drew.
 #[derive(Drop)]
 pub struct ProofShown {

@@ -14,6 +14,8 @@ pub enum Command {
     Verify,
     /// A proof is verified, and what each of its steps did is shown.
     Explain,
+    /// Its code is printed.
+    Rust,
 }
 
 /// What the command line asks for.
@@ -71,11 +73,18 @@ const EXPLAIN: Usage = Usage {
     second: Some(("PROOF", "the proof")),
 };
 
+const RUST: Usage = Usage {
+    name: "rust",
+    about: "Prints the suite, the steps and the separator as code",
+    second: None,
+};
+
 fn grammar<'a>(alloc: Global) -> Result<clap::Command<'a>, AllocError> {
     let program = with(program(alloc)?, of_file(alloc, &PATTERN))?;
     let program = with(program, of_file(alloc, &PROVE))?;
     let program = with(program, of_proof(alloc, &VERIFY))?;
-    with(program, of_table(alloc, &EXPLAIN))
+    let program = with(program, of_table(alloc, &EXPLAIN))?;
+    with(program, of_file(alloc, &RUST))
 }
 
 // The program with one more command, if there is memory for it.
@@ -157,6 +166,7 @@ pub fn request_of<'a>(alloc: Global, matches: &ArgMatches<'a>) -> Result<Request
         "pattern" => (Command::Pattern, None),
         "prove" => (Command::Prove, matches.get_str("VALUES")),
         "verify" => (Command::Verify, matches.get_str("PROOF")),
+        "rust" => (Command::Rust, None),
         _ => (Command::Explain, matches.get_str("PROOF")),
     };
     Ok(Request {

@@ -3,9 +3,11 @@
 #![tactic(auto)]
 
 pub mod answers;
+pub mod code;
 pub mod command;
 pub mod entry;
 pub mod explanation;
+mod imports;
 mod json;
 pub mod labels;
 pub mod limits;
@@ -15,5 +17,7 @@ pub mod proofs;
 pub mod refusal;
 pub mod repetition;
 pub mod shown;
+mod step_code;
 pub mod steps;
+pub mod suite_code;
 mod table;

@@ -49,8 +49,8 @@ pub fn unrolled<'a>(alloc: Global, list: &'a [Value]) -> Result<Vec<Listed<'a>>>
     Ok(steps)
 }
 
-// The key of how many times steps stand.
-const REPEAT: &str = "repeat";
+/// The key of how many times steps stand.
+pub const REPEAT: &str = "repeat";
 
 // Adds the steps of a table that says how many times they stand.
 fn add_repeated<'a>(steps: &mut Vec<Listed<'a>>, at: usize, entry: Entry<'a>) -> Result<()> {
