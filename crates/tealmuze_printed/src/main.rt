@@ -38,16 +38,40 @@ fn main(rt: HostRuntime) -> Result<()> {
 
 fn of_bytes(rt: &HostRuntime) -> Result<()> {
     tell_of!(rt, baby_bear_bytes, baby_bear_bytes::challenger(rt.alloc()));
-    tell_of!(rt, baby_bear_bytes_keccak, baby_bear_bytes_keccak::challenger(rt.alloc()));
-    tell_of!(rt, goldilocks_bytes, goldilocks_bytes::challenger(rt.alloc()));
+    tell_of!(
+        rt,
+        baby_bear_bytes_keccak,
+        baby_bear_bytes_keccak::challenger(rt.alloc())
+    );
+    tell_of!(
+        rt,
+        goldilocks_bytes,
+        goldilocks_bytes::challenger(rt.alloc())
+    );
     Ok(())
 }
 
 fn of_elements(rt: &HostRuntime) -> Result<()> {
-    tell_of!(rt, baby_bear_elements, baby_bear_elements::challenger(rt.alloc()));
-    tell_of!(rt, baby_bear_elements_keccak, baby_bear_elements_keccak::challenger(rt.alloc()));
-    tell_of!(rt, goldilocks_elements, goldilocks_elements::challenger(rt.alloc()));
-    tell_of!(rt, goldilocks_elements_keccak, goldilocks_elements_keccak::challenger(rt.alloc()));
+    tell_of!(
+        rt,
+        baby_bear_elements,
+        baby_bear_elements::challenger(rt.alloc())
+    );
+    tell_of!(
+        rt,
+        baby_bear_elements_keccak,
+        baby_bear_elements_keccak::challenger(rt.alloc())
+    );
+    tell_of!(
+        rt,
+        goldilocks_elements,
+        goldilocks_elements::challenger(rt.alloc())
+    );
+    tell_of!(
+        rt,
+        goldilocks_elements_keccak,
+        goldilocks_elements_keccak::challenger(rt.alloc())
+    );
     Ok(())
 }
 

@@ -16,7 +16,10 @@ pub fn code(alloc: Global, suite: SuiteCode, file: Entry<'_>) -> Result<String> 
     StepWriter { alloc, suite }.write_steps(&mut body, file)?;
     write_separator(alloc, &mut body, file)?;
     let text = file.text("name")?;
-    let mut code = format!(in alloc; "//! The protocol `{}`, as `tealmuze rust` prints it.\n\n", OneLine { text })?;
+    let mut code = format!(in alloc;
+        "//! The protocol `{}`, as `tealmuze rust` prints it.\n\n",
+        OneLine { text }
+    )?;
     write_imports(&mut code, body.as_str())?;
     code.push_str(body.as_str())?;
     Ok(code)
@@ -65,7 +68,10 @@ fn write_suite(text: &mut String, suite: SuiteCode) -> Result<()> {
     }
     let (own, specifications) = suite.own();
     text.push_str(USES_OF_ELEMENTS)?;
-    writeln!(text, "    ghost use Rattle.p3_challenger.specs.{{{specifications}}};\n")?;
+    writeln!(
+        text,
+        "    ghost use Rattle.p3_challenger.specs.{{{specifications}}};\n"
+    )?;
     write_members(text, suite)?;
     writeln!(text, "    ghost is_own = {{ λ {own} }};\n")?;
     text.push_str(GHOSTS_OF_ELEMENTS)?;
@@ -94,16 +100,26 @@ fn write_members(text: &mut String, suite: SuiteCode) -> Result<()> {
 fn write_types(text: &mut String, suite: SuiteCode) -> Result<()> {
     let (challenger, new) = (suite.challenger_type(), suite.new_challenger());
     let (alphabet, digest) = (suite.alphabet(), suite.digest());
-    writeln!(text, "\n/// The challenger.\npub type Challenger = {challenger};\n")?;
+    writeln!(
+        text,
+        "\n/// The challenger.\npub type Challenger = {challenger};\n"
+    )?;
     writeln!(text, "/// What binds a transcript to the protocol.")?;
-    writeln!(text, "pub type Separator = DomainSeparator<{alphabet}, {digest}>;\n")?;
-    writeln!(text, "/// What both sides begin with: a challenger that observed nothing.\n{new}")?;
+    writeln!(
+        text,
+        "pub type Separator = DomainSeparator<{alphabet}, {digest}>;\n"
+    )?;
+    writeln!(
+        text,
+        "/// What both sides begin with: a challenger that observed nothing.\n{new}"
+    )?;
     Ok(())
 }
 
 // ---- the separator
 
-const SEPARATOR: &str = "/// The version and the name of the protocol, the pattern of its steps, and the instance.
+const SEPARATOR: &str =
+    "/// The version and the name of the protocol, the pattern of its steps, and the instance.
 pub fn separator(alloc: Global, steps: &[Step<Protocol>]) -> Result<Separator, TranscriptError> {
     let pattern = script::pattern::<Protocol>(alloc, steps)?;
 ";
@@ -113,10 +129,16 @@ fn write_separator(alloc: Global, text: &mut String, file: Entry<'_>) -> Result<
     let (version, name) = (file.number("version")?, file.text("name")?);
     let chunks = file.list_or_none("instance")?;
     if chunks.is_empty() {
-        writeln!(text, "    Separator::new(alloc, {version}, {name:?}.as_bytes(), pattern)\n}}")?;
+        writeln!(
+            text,
+            "    Separator::new(alloc, {version}, {name:?}.as_bytes(), pattern)\n}}"
+        )?;
         return Ok(());
     }
-    writeln!(text, "    let mut separator = Separator::new(alloc, {version}, {name:?}.as_bytes(), pattern)?;")?;
+    writeln!(
+        text,
+        "    let mut separator = Separator::new(alloc, {version}, {name:?}.as_bytes(), pattern)?;"
+    )?;
     for chunk in chunks {
         let chunk = bytes(alloc, chunk)?;
         writeln!(text, "    separator.instance(&{chunk:?})?;")?;

@@ -105,7 +105,9 @@ impl StepWriter {
         let mut list = Listed::new(alloc);
         for value in values {
             match name {
-                "public_scalars" | "public_scalars_bounded" => list.add(self.scalar(number(value)?)?)?,
+                "public_scalars" | "public_scalars_bounded" => list.add(self.scalar(number(
+                    value,
+                )?)?)?,
                 _ => list.add(self.extension(value)?)?,
             }
         }

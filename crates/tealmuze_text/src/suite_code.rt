@@ -141,7 +141,10 @@ impl SuiteCode {
                 "digest. AreWords (values_of digest)",
                 "Bytes.AreWords, HashValueLaws.values-injective, Digests.values_of",
             ),
-            _ => ("_. Unit {0}", "HashValueLaws.values-injective, Digests.values_of"),
+            _ => (
+                "_. Unit {0}",
+                "HashValueLaws.values-injective, Digests.values_of",
+            ),
         }
     }
 
@@ -167,10 +170,16 @@ impl fmt::Display for ChallengerType {
         match (self.suite.challenger, self.suite.field) {
             (ChallengerCode::Bytes(hash), _) => write!(f, "HashChallenger<u8, {hash}, 32>"),
             (ChallengerCode::Elements(hash), FieldCode::BabyBear) => {
-                write!(f, "SerializingChallenger32<BabyBear, HashChallenger<u8, {hash}, 32>>")
+                write!(
+                    f,
+                    "SerializingChallenger32<BabyBear, HashChallenger<u8, {hash}, 32>>"
+                )
             }
             (ChallengerCode::Elements(hash), FieldCode::Goldilocks) => {
-                write!(f, "SerializingChallenger64<Goldilocks, HashChallenger<u8, {hash}, 32>>")
+                write!(
+                    f,
+                    "SerializingChallenger64<Goldilocks, HashChallenger<u8, {hash}, 32>>"
+                )
             }
             (ChallengerCode::Permuted, FieldCode::BabyBear) => {
                 f.write_str("DuplexChallenger<BabyBear, Poseidon2BabyBear16, 16, 8>")
@@ -207,7 +216,10 @@ impl fmt::Display for NewChallenger {
             }
             ChallengerCode::Elements(hash) => {
                 f.write_str("pub fn challenger(alloc: Global) -> Challenger {\n")?;
-                writeln!(f, "    let inner = HashChallenger::new(Vec::new(alloc), {hash});")?;
+                writeln!(
+                    f,
+                    "    let inner = HashChallenger::new(Vec::new(alloc), {hash});"
+                )?;
                 writeln!(f, "    Challenger::new(inner, {DRAW_LIMIT})\n}}")
             }
             ChallengerCode::Permuted => {
