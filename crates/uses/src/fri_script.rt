@@ -3,14 +3,14 @@
 //! before it.
 //!
 //! The steps are data, and their pattern is made of them. The prover's code is a closure that gives the next message.
-//! Nothing is proved of it but that it ends. The contract of [`verify`] says which bytes are accepted, and holds for any
-//! prover.
+//! Nothing is proved of it but that it ends. The contract of [`prove`] says that the proof is that of the messages which it
+//! gave, and the contract of [`verify`] which bytes are accepted, from any prover.
 //!
 //! Layers are of the base field here, and a tree is of one leaf, which has the whole layer.
 ghost use Rattle.std.specs.Prelude.{◌≡◌, [], IfOk, IfErr};
 ghost use Rattle.p3_challenger.specs.{HashCalls.with_pending, Verdicts.script_of};
-ghost use Rattle.p3_challenger.specs.{Runs.{AreAdmitted, carried_count}, Scripts.play_of};
-ghost use Rattle.p3_challenger.specs.VerifierAnswers.{IsVerifiedScript, IsRefusedProof};
+ghost use Rattle.p3_challenger.specs.{Runs.{AreAdmitted, carried_count}, Scripts.{play_of, values_sent}};
+ghost use Rattle.p3_challenger.specs.{ProverAnswers.IsProvedScript, VerifierAnswers.{IsVerifiedScript, IsRefusedProof}};
 
 use p3_challenger::fs::script::{
     AcceptAll, Answered, Drawn, Fault, Meaning, Plain, ProveByError, Sent, Step, Suite, Verified,
@@ -103,7 +103,8 @@ impl From<AllocError> for FoldError {
     }
 }
 
-/// Proves that the layer was folded to one value. No clause says so: tests alone compare what it sends.
+/// Proves that the layer was folded to one value. A proof is the one of the messages that were sent, and verifies. No clause
+/// says what these are: tests alone compare them.
 ///
 /// Condition: the suite has the steps, as [`script::admitted`] says.
 pub fn prove(
@@ -113,6 +114,9 @@ pub fn prove(
     layer: Vec<BabyBear>,
 ) -> Result<Answered<Fri>, ProveByError<FoldError>>
     requires admitted { AreAdmitted (play_of (⟦<Fri as Meaning>⟧.rules 1)) steps.now }
+    ensures proved { IfOk result (λ a. IsProvedScript (⟦<Fri as Meaning>⟧.rules 1)
+        (script_of (record { sponge = with_pending []; hasher = record {} }) separator.now steps.now)
+        (values_sent a.sent.items) ⟦<Challenger as Sponge>⟧.state a.proved) }
 {
     let mut folding = Folding { layer, folds: 0 };
     script::prove_by::<Fri, FoldError, _>(
