@@ -3,7 +3,7 @@ use Rattle.std.proofs.Common.{◌≡◌, ℕ, suc, List, [], ◌∷◌, length, 
 use Rattle.std.proofs.lemmas.List.{length-append}
 use Rattle.p3_runs.specs.{Fronts.{Run, seeded}, Plays.{Play, Place, Carried}, Provings.IsProved, Rules.Rules}
 use Rattle.p3_runs.specs.{Runs.{if_carried, carried_count}, RunLaws.{AreMatched, finished-matched}}
-use Rattle.p3_runs.specs.{Stepping.all_witnesses, Values.{Value, Challenge}}
+use Rattle.p3_runs.specs.Values.{Value, Challenge, all_witnesses}
 use Rattle.p3_runs.specs.Runs as runs
 
 length-witnesses : {F : Type 0} (EF : Type 0) (xs : List F) → length (all_witnesses {EF = EF} xs) ≡ length xs

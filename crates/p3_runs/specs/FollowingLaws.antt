@@ -5,9 +5,10 @@ use Rattle.std.proofs.{Common.◌⊎◌, lemmas.List.{drop_all, length-append}}
 use Rattle.p3_fs_core.specs.declared.error.TranscriptError.{TranscriptError}
 use Rattle.p3_patterns.specs.Playing.{Playing}
 use Rattle.p3_driver_core.specs.{Driving.Driving, Transcripts.PlaysStep, Verifying.{EndsReading, RefusesEnd}}
-use Rattle.p3_runs.specs.{Runs.{if_in_proof, if_carried, if_drawn}, Values.{Value, Challenge}, RunLaws.AreMatched}
+use Rattle.p3_runs.specs.{Runs.{if_in_proof, if_carried, if_drawn}, Values.{Value, Challenge, one_witness, all_witnesses}}
+use Rattle.p3_runs.specs.RunLaws.{AreMatched}
 use Rattle.p3_runs.specs.RunLaws.{finished-matched, finishes-more, wires-more, picked-more, after-more, challenges-more}
-use Rattle.p3_runs.specs.{Rules.Rules, Sides.Sides, Stepping.{TakesStep, Halts, IsCarriedTo, one_of, one_witness, all_witnesses}}
+use Rattle.p3_runs.specs.{Rules.Rules, Sides.Sides, Stepping.{TakesStep, Halts, IsCarriedTo, one_of}}
 use Rattle.p3_runs.specs.Verdicts.{with_steps, driving_after, IsProof, IsOutcome, RefusesAtStep, RefusesAtEnd}
 use Rattle.p3_runs.specs.{Plays.{Play, Place, Carried, meaning}, Fronts.{Run, IsFinished, pattern, seed, seeded}}
 use Rattle.p3_runs.specs.Runs as runs

@@ -89,7 +89,7 @@ known_within interaction len max effect absorbed =
 
 -- ---- what is sent
 
--- for a value of this type, or else for none
+-- of a value that was found, or else
 abbrev pub when_some : {A R : Type 0} → R → (A → R) → Option A → R
 when_some other f None = other
 when_some other f (Some x) = f x
@@ -98,18 +98,18 @@ abbrev pub effect_some : {S Symbol A T : Type 0} → T → (A → Effect S Symbo
 effect_some other f None = untouched other
 effect_some other f (Some x) = f x
 
--- A value is sent if `found` finds one of its type and it fits. Each has this meaning.
+-- A value is sent if `found` finds one of its type and it fits. It has these bytes in the proof and this effect.
 abbrev pub sends : {S Symbol F EF O A : Type 0} → Step → (Value F EF → Option A) → (A → Type 0) → (A → Type 0) →
-    (A → Meaning S Symbol A) → (A → Absorbed F O) → Play S Symbol F EF O
-sends interaction found IsHanded IsFit sent absorbed = record {
+    (A → List ℕ) → (A → Effect S Symbol A) → (A → Absorbed F O) → Play S Symbol F EF O
+sends interaction found IsHanded IsFit wire effect absorbed = record {
   interaction = interaction;
   admitted = Unit {0};
   place = Sent;
   IsHanded = λ v. holds_some IsHanded (found v);
   IsChosen = NoChoice;
   Fits = λ v. holds_some IsFit (found v);
-  wire = λ v. when_some [] (λ x. (sent x).wire) (found v);
-  effect = λ v. effect_some None (λ x. giving no_challenge (sent x).effect) (found v);
+  wire = λ v. when_some [] wire (found v);
+  effect = λ v. effect_some None (λ x. giving no_challenge (effect x)) (found v);
   absorbed = λ v. when_some Nothing absorbed (found v);
 }
 

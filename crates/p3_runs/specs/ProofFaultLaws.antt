@@ -5,7 +5,7 @@ use Rattle.p3_fs_core.specs.declared.error.TranscriptError.TheVariants.{OutOfMem
 use Rattle.p3_driver_core.specs.Driving.{Driving}
 use Rattle.p3_runs.specs.{ReachLaws.{Reaches, one-front, passed-step}, Faults.{TellOneFault, ProofsTellOneFault}}
 use Rattle.p3_runs.specs.{Rules.Rules, FaultLaws.{Stops, GoesPast, one-step, one-fault, end-refusal}, Runs.AreAdmitted}
-use Rattle.p3_runs.specs.{Plays.{Play, Place, Carried}, Values.Value, Sides.Sides, Stepping.{IsCarriedTo, OrHalts, one_witness}}
+use Rattle.p3_runs.specs.{Plays.{Play, Place, Carried}, Values.{Value, one_witness}, Sides.Sides, Stepping.{IsCarriedTo, OrHalts}}
 use Rattle.p3_runs.specs.{Stepping.{IsCanonical, IsTakenWherePossible, RefuseForOneReason}, Fronts.{Run, seed}}
 use Rattle.p3_runs.specs.{Verdicts.{with_steps, driving_after, RefusesAtStep, RefusesAtEnd}, FrontLaws.next-admitted}
 use Rattle.p3_runs.specs.Runs as runs

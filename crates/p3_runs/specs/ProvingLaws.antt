@@ -6,10 +6,10 @@ use Rattle.p3_patterns.specs.Playing.{FaultOfPlayEnd, IsPatternError, IsPlayed}
 use Rattle.p3_driver_core.specs.Driving.{Driving}
 use Rattle.p3_runs.specs.{RunLaws.{finished-matched, chosen-more}, Rules.Rules, Verdicts.{driving_after, with_steps}}
 use Rattle.p3_runs.specs.{Plays.{Carried, Place, Play, Sent}, Runs.{if_carried, if_witness, if_drawn, if_sent}}
-use Rattle.p3_runs.specs.{Sides.Sides, Stepping.{all_witnesses, one_witness, SendsStep, one_of, Halts}, Provings.RefusesToProveStep}
+use Rattle.p3_runs.specs.{Sides.Sides, Stepping.{SendsStep, one_of, Halts}, Provings.RefusesToProveStep}
 use Rattle.p3_runs.specs.Provings.{RefusesToProveEnd, IsProverOutcome, where_carried, StartsHanded, AreHanded, FirstIs}
 use Rattle.p3_runs.specs.FollowingLaws.{length-more, on-finished, on-stands, on-picked, take_all, on-wires, on-drawn}
-use Rattle.p3_runs.specs.{Fronts.{IsFinished, AreLeast, pattern, seeded, seed, Run}, Values.{Challenge, Value}}
+use Rattle.p3_runs.specs.{Fronts.{IsFinished, AreLeast, pattern, seeded, seed, Run}, Values.{Challenge, Value, all_witnesses, one_witness}}
 use Rattle.p3_runs.specs.Runs as runs
 
 -- ---- lists

@@ -4,8 +4,8 @@ use Rattle.p3_fs_core.specs.{Errors.pattern_error_of, declared.error.TranscriptE
 use Rattle.p3_patterns.specs.Playing.{FaultOfPlayEnd, IsPatternError}
 use Rattle.p3_driver_core.specs.Driving.{Driving, RefusesStart}
 use Rattle.p3_runs.specs.{Runs.if_sent, Fronts.{IsFinished, challenges, AreLeast, IsWhole, seed, wire, last, Run}}
-use Rattle.p3_runs.specs.{Plays.{Carried, Place, Play, Sent}, Values.{Challenge, Value}, Rules.Rules}
-use Rattle.p3_runs.specs.{Sides.Sides, Stepping.{all_witnesses, OrHalts}, Verdicts.{driving_after, playing_after, with_steps}}
+use Rattle.p3_runs.specs.{Plays.{Carried, Place, Play, Sent}, Values.{Challenge, Value, all_witnesses}, Rules.Rules}
+use Rattle.p3_runs.specs.{Sides.Sides, Stepping.OrHalts, Verdicts.{driving_after, playing_after, with_steps}}
 use Rattle.p3_runs.specs.Runs as runs
 
 -- if the prover is handed a value for a step, the first value is one, and this holds of the others

@@ -6,8 +6,8 @@ use Rattle.p3_fs_core.specs.declared.error.TranscriptError.TheVariants.{OutOfMem
 use Rattle.p3_driver_core.specs.{Driving.Driving, Transcripts.IsNext}
 use Rattle.p3_runs.specs.{FrontLaws.{next-fits, no_values-left, front-fits, front-next}, Plays.{Play, Place, Carried}}
 use Rattle.p3_runs.specs.{Fronts.{Run, IsFinished, seeded}, Rules.Rules, Runs.{if_carried, Finishes, interactions}}
-use Rattle.p3_runs.specs.{RunLaws.{AreCanonical, GoesOn, front-of_run}, Sides.Sides, Values.{Value, Witness}}
-use Rattle.p3_runs.specs.Stepping.{IsCarriedTo, OrHalts, one_witness, all_witnesses, IsCanonical, IsTakenWherePossible}
+use Rattle.p3_runs.specs.{RunLaws.{AreCanonical, GoesOn, front-of_run}, Sides.Sides, Values.{Value, Witness, one_witness, all_witnesses}}
+use Rattle.p3_runs.specs.Stepping.{IsCarriedTo, OrHalts, IsCanonical, IsTakenWherePossible}
 use Rattle.p3_runs.specs.Verdicts.{with_steps, driving_after}
 use Rattle.p3_runs.specs.Runs as runs
 

@@ -4,8 +4,7 @@ use Rattle.p3_fs_core.specs.declared.error.{TranscriptError.TranscriptError, Tra
 use Rattle.p3_driver_core.specs.{Driving.Driving, Transcripts.{PlaysStep, IsNext}}
 use Rattle.p3_step_laws.specs.OneReason.{TellOneReason}
 use Rattle.p3_runs.specs.{Plays.{Play, Place, Carried, meaning}, Runs.{if_in_proof, if_sent, if_carried, if_witness}}
-use Rattle.p3_runs.specs.{Sides.{Refusing, Sides}, Values.{Value, Challenge}}
-use Rattle.p3_runs.specs.Values as value
+use Rattle.p3_runs.specs.{Sides.{Refusing, Sides}, Values.{Value, Challenge, one_witness}}
 
 -- a caller carries a witness exactly to a step whose place says so
 abbrev pub IsCarriedTo : {F : Type 0} → Place → Option F → Type 0
@@ -16,15 +15,6 @@ IsCarriedTo _ witness = witness ≡ None
 abbrev pub one_of : {A : Type 0} → Option A → List A
 one_of None = []
 one_of (Some x) = x ∷ []
-
--- witnesses as values
-abbrev pub one_witness : {F EF : Type 0} → Option F → List (Value F EF)
-one_witness None = []
-one_witness (Some x) = value.Witness x ∷ []
-
-abbrev pub all_witnesses : {F EF : Type 0} → List F → List (Value F EF)
-all_witnesses [] = []
-all_witnesses (x ∷ xs) = value.Witness x ∷ all_witnesses xs
 
 -- A verifier plays the step with a value that fits and whose bytes came next in the proof. If the caller carries a
 -- witness, the value is that witness. This part of it is received, and this is drawn.

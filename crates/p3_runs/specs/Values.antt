@@ -1,6 +1,6 @@
 -- The values at the steps of a script that the script itself does not have, and the challenges drawn
 -- there.
-use Rattle.std.specs.Prelude.{ℕ, List, Option, Some, None}
+use Rattle.std.specs.Prelude.{ℕ, List, [], ◌∷◌, Option, Some, None}
 
 -- the value at a step: nothing, or a value that the proof or the caller carries
 pub data Value (F EF : Type 0) : Type 0 where
@@ -43,3 +43,13 @@ witness_in _ = None
 abbrev pub IsNothing : {F EF : Type 0} → Value F EF → Type 0
 IsNothing Nothing = Unit {0}
 IsNothing _ = ⊥
+
+-- ---- witnesses as values
+
+abbrev pub one_witness : {F EF : Type 0} → Option F → List (Value F EF)
+one_witness None = []
+one_witness (Some x) = Witness x ∷ []
+
+abbrev pub all_witnesses : {F EF : Type 0} → List F → List (Value F EF)
+all_witnesses [] = []
+all_witnesses (x ∷ xs) = Witness x ∷ all_witnesses xs

@@ -6,8 +6,8 @@ use Rattle.p3_domain_separator.specs.declared.domain_separator.DomainSeparator.{
 use Rattle.p3_patterns.specs.Playing.{Playing}
 use Rattle.p3_driver_core.specs.{Driving.{Driving, RefusesStart}, Verifying.RefusesEnd}
 use Rattle.p3_runs.specs.{Fronts.{Run, IsFinished, IsWhole, seed, wire, challenges, last}, Plays.Play, Rules.Rules}
-use Rattle.p3_runs.specs.{Sides.Sides, Stepping.{OrHalts, one_witness, all_witnesses, IsCarriedTo}}
-use Rattle.p3_runs.specs.Values.{Value, Challenge}
+use Rattle.p3_runs.specs.{Sides.Sides, Stepping.{OrHalts, IsCarriedTo}}
+use Rattle.p3_runs.specs.Values.{Value, Challenge, one_witness, all_witnesses}
 use Rattle.p3_runs.specs.Runs as runs
 
 -- the run with these values at these steps, under the same separator and from the same challenger

@@ -11,13 +11,13 @@ use Rattle.p3_driver_core.specs.Transcripts.{without_wire, step_on, Meaning, Tra
 use Rattle.p3_driver_core.specs.Verifying.{RefusesToRead}
 use Rattle.p3_step_laws.specs.{Completeness.{CompletesWork, CompletesCarriedWork}, MemoryLaws.next-only_memory}
 use Rattle.p3_step_laws.specs.OneReason.{TellsLimits, OnlyMemoryRefusesToRead}
-use Rattle.p3_runs.specs.{Absorbed.Absorbed, Values.{Value, Challenge, Witness, IsNothing, witness_in}}
+use Rattle.p3_runs.specs.{Absorbed.Absorbed, Values.{Value, Challenge, Witness, IsNothing, witness_in, one_witness}}
 use Rattle.p3_runs.specs.Plays.{no_challenge, Play, only_if, known, known_with, known_within, sends, sends_witness}
 use Rattle.p3_runs.specs.Plays.{carries_witness}
 use Rattle.p3_runs.specs.Sides.{Refusing, Sides, refuses_some, sides_alike, sides_known, sides_sent, sides_ground}
 use Rattle.p3_runs.specs.Sides.{sides_carried, RefusesToWriteWithin, RefusesWithin, RefusesCarriedWithin}
 use Rattle.p3_runs.specs.Sides.{RefusesCarriedWork, RefusesToReadWork}
-use Rattle.p3_runs.specs.Stepping.{IsTakenWherePossible, IsSentWherePossible, CanTake, one_witness}
+use Rattle.p3_runs.specs.Stepping.{IsTakenWherePossible, IsSentWherePossible, CanTake}
 use Rattle.p3_script.proofs.Canonical.{fitting}
 
 -- what is made of something is of something
@@ -89,7 +89,7 @@ module _ {S Symbol F EF O A : Type 0} (i : Step) (found : Value F EF → Option 
   sides = sides_sent found proving (RefusesToRead reading)
 
   -- a verifier
-  sends-taken : IsTakenWherePossible (sends i found IsHanded IsFit sent absorbed) sides
+  sends-taken : IsTakenWherePossible (sends i found IsHanded IsFit (λ x. (sent x).wire) (λ x. (sent x).effect) absorbed) sides
   sends-taken =
       record {
         only_memory = λ witness before after e v refuses carried can.
@@ -103,7 +103,7 @@ module _ {S Symbol F EF O A : Type 0} (i : Step) (found : Value F EF → Option 
       }
 
   -- a prover, which was handed what it sends
-  sends-sent : IsSentWherePossible (sends i found IsHanded IsFit sent absorbed) sides
+  sends-sent : IsSentWherePossible (sends i found IsHanded IsFit (λ x. (sent x).wire) (λ x. (sent x).effect) absorbed) sides
   sends-sent =
       record {
         only_memory = λ given v before after e handed refuses same can.
@@ -117,7 +117,7 @@ module _ {S Symbol F EF O A : Type 0} (i : Step) (found : Value F EF → Option 
             (refused x.0 before after e x.2 can.is_next.0 here).refuses;
       }
 
-  pub sends-refused : IsRefusedForMemory (sends i found IsHanded IsFit sent absorbed) sides
+  pub sends-refused : IsRefusedForMemory (sends i found IsHanded IsFit (λ x. (sent x).wire) (λ x. (sent x).effect) absorbed) sides
   sends-refused = record { taken = sends-taken; sent = sends-sent }
 
 -- ---- proof of work

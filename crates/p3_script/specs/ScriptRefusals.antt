@@ -5,7 +5,7 @@ use Rattle.p3_fs_core.specs.{Steps.algebra_step, declared.step.Kind.Kind}
 use Rattle.p3_runs.specs.{Rules.{Rules, Coding}, Values.{Value, bytes_in, scalar_in, scalars_in, extension_in}}
 use Rattle.p3_runs.specs.Sides.{Sides, sides_alike, sides_known, sides_sent, sides_ground, sides_carried, RefusesKept}
 use Rattle.p3_runs.specs.Sides.{RefusesWithin, RefusesCarriedWithin, RefusesAsRecorded, RefusesToWriteWithin}
-use Rattle.p3_script.specs.Scripts.{play_of, list_known, counted_known, list_sent, work_in}
+use Rattle.p3_script.specs.Scripts.{play_of, work_in}
 use Rattle.std.specs.Prelude as list
 use Rattle.p3_fs_core.specs.declared.step.Kind.TheVariants as kind
 use Rattle.p3_fs_core.specs.declared.step.Length.TheVariants as lengths
@@ -26,6 +26,21 @@ sides_within found max sent reading =
     sides_sent found (λ xs. RefusesToWriteWithin (list.length xs) max (sent xs)) (RefusesToRead reading)
 
 module _ {S Symbol I F EF O Ac : Type 0} (rules : Rules S Symbol I F EF O Ac) where
+  -- ---- lists as drivers play them, known to both sides or sent
+
+  abbrev pub list_known : {A : Type 0} → Coding S Symbol F A → Kind → List ℕ → List A → Meaning S Symbol (List A)
+  list_known coding kind label xs =
+      meaning.observed_list (algebra_step kind label coding.algebra (lengths.Fixed (list.length xs))) coding.observation xs
+
+  abbrev pub counted_known : {A : Type 0} → Coding S Symbol F A → Kind → List ℕ → List A → ℕ → Meaning S Symbol (List A)
+  counted_known coding kind label xs max = meaning.observed_bounded
+      (algebra_step kind label coding.algebra (lengths.Bounded max)) rules.alphabet max coding.observation xs
+
+  abbrev pub list_sent : {A : Type 0} → Coding S Symbol F A → List ℕ → List A → Meaning S Symbol (List A)
+  list_sent coding label xs =
+      meaning.sent_list (algebra_step kind.Message label coding.algebra (lengths.Fixed (list.length xs)))
+      coding.observation coding.encoding xs
+
   -- ---- values that are sent: bytes, hints, elements of an algebra
 
   abbrev pub bytes_sides : Kind → List ℕ → ℕ → Sides S F EF
@@ -54,7 +69,7 @@ module _ {S Symbol I F EF O Ac : Type 0} (rules : Rules S Symbol I F EF O Ac) wh
   abbrev pub list_sides : {A : Type 0} → Coding S Symbol F A → (Value F EF → Option (List A)) → List ℕ → ℕ →
       Sides S F EF
   list_sides coding found label n =
-      sides_of_value found (list_sent rules coding label) (reads.received_list
+      sides_of_value found (list_sent coding label) (reads.received_list
       (algebra_step kind.Message label coding.algebra (lengths.Fixed n)) coding.observation coding.encoding n)
 
   abbrev pub counted_sides : {A : Type 0} → Coding S Symbol F A → (Value F EF → Option (List A)) → List ℕ → ℕ →
@@ -69,12 +84,12 @@ module _ {S Symbol I F EF O Ac : Type 0} (rules : Rules S Symbol I F EF O Ac) wh
   -- the verifier first compares the length of the list with that of the pattern's next step
   abbrev pub recorded_sides : {A : Type 0} → Coding S Symbol F A → Kind → List ℕ → List A → Sides S F EF
   recorded_sides coding kind label xs =
-      let m = list_known rules coding kind label xs in sides_known (RefusesKept m) (RefusesAsRecorded (list.length xs) m)
+      let m = list_known coding kind label xs in sides_known (RefusesKept m) (RefusesAsRecorded (list.length xs) m)
 
   -- the list has a greatest length
   abbrev pub counted_known_sides : {A : Type 0} → Coding S Symbol F A → Kind → List ℕ → List A → ℕ → Sides S F EF
   counted_known_sides coding kind label xs max =
-      let m = counted_known rules coding kind label xs max in
+      let m = counted_known coding kind label xs max in
       sides_known (RefusesWithin (list.length xs) max m) (RefusesCarriedWithin (list.length xs) max m)
 
   -- ---- the steps of a script

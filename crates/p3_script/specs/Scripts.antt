@@ -1,10 +1,12 @@
 -- The meaning of a script's steps, and what is sent, received and drawn at them, without the suite's types.
-use Rattle.std.specs.Prelude.{ℕ, ◌≤◌, List, [], ◌∷◌, map, Option, Some, None}
+use Rattle.std.specs.Prelude.{ℕ, ◌≤◌, List, [], ◌∷◌, ◌++◌, map, flat_map, Option, Some, None}
 use Rattle.p3_challenger_core.specs.Sampling.{Sampling}
 use Rattle.p3_fs_core.specs.{Steps.{algebra_step, Step, marker_of}, declared.step.Hierarchy.Hierarchy}
 use Rattle.p3_fs_core.specs.declared.step.{Hierarchy.TheVariants.{Begin, End}, Kind.Kind}
-use Rattle.p3_driver_core.specs.Effects.{untouched, observing, drawing, drawing_list}
-use Rattle.p3_driver_core.specs.Transcripts.{Meaning, bytes_step, opaque_step, bits_step, uniform_bits_step}
+use Rattle.p3_driver_core.specs.Effects.{Effect, untouched, observing, observing_list, observing_bytes, after_count}
+use Rattle.p3_driver_core.specs.Effects.{drawing, drawing_list}
+use Rattle.p3_driver_core.specs.Transcripts.{bytes_step, opaque_step, bits_step, uniform_bits_step}
+use Rattle.p3_fs_core.specs.BigEndian.{count_bytes}
 use Rattle.p3_driver_core.specs.{Rejecting.drawing_rejecting, Working.{Work, work_of}}
 use Rattle.p3_runs.specs.{Absorbed.{Absorbed, Nothing, Bytes, Elements, Own, witness_of}, Rules.{Rules, Coding}}
 use Rattle.p3_runs.specs.Plays.{Play, known, known_within, sends, sends_witness, carries_witness, only_if}
@@ -14,7 +16,6 @@ use Rattle.p3_script.specs.declared.steps.{Drawn.Drawn, Received.Received, Sent.
 use Rattle.std.specs.Prelude as list
 use Rattle.p3_fs_core.specs.declared.step.Kind.TheVariants as kind
 use Rattle.p3_fs_core.specs.declared.step.Length.TheVariants as lengths
-use Rattle.p3_driver_core.specs.Meanings as meaning
 use Rattle.p3_runs.specs.Values as value
 use Rattle.p3_script.specs.declared.steps.Drawn.TheVariants as drawn
 use Rattle.p3_script.specs.declared.steps.Received.TheVariants as received
@@ -35,26 +36,31 @@ module _ {S Symbol I F EF O Ac : Type 0} (rules : Rules S Symbol I F EF O Ac) wh
 
   -- ---- bytes
 
-  -- len bytes are sent
+  -- bytes or the bytes of elements after their count, in as few bytes as hold the greatest count
+  abbrev pub after_their_count : {T : Type 0} → ℕ → (List T → List ℕ) → List T → List ℕ
+  after_their_count max wire xs = count_bytes max (list.length xs) ++ wire xs
+
+  -- an effect on a list that follows the effect of its count
+  abbrev pub counting : {T : Type 0} → ℕ → (List T → Effect S Symbol (List T)) → List T → Effect S Symbol (List T)
+  counting max effect xs = after_count rules.alphabet max (list.length xs) (effect xs)
+
+  -- len bytes are sent, or at most max bytes after their count
   abbrev pub sends_bytes : Kind → List ℕ → ℕ → Play S Symbol F EF O
-  sends_bytes kind label len =
-      sends (bytes_step kind label (lengths.Fixed len)) bytes_in (HasLength len) (HasLength len)
-      (meaning.sent_bytes kind label rules.alphabet) Bytes
+  sends_bytes kind label len = sends (bytes_step kind label (lengths.Fixed len)) bytes_in (HasLength len)
+      (HasLength len) (λ bytes. bytes) (observing_bytes rules.alphabet) Bytes
 
-  -- at most max bytes are sent, after their count
   abbrev pub sends_counted_bytes : List ℕ → ℕ → Play S Symbol F EF O
-  sends_counted_bytes label max =
-      sends (bytes_step kind.Message label (lengths.Bounded max)) bytes_in Any (HasAtMost max)
-      (meaning.sent_bytes_bounded kind.Message label rules.alphabet max) Bytes
+  sends_counted_bytes label max = sends (bytes_step kind.Message label (lengths.Bounded max)) bytes_in Any
+      (HasAtMost max) (after_their_count max (λ bytes. bytes)) (counting max (observing_bytes rules.alphabet)) Bytes
 
-  -- len bytes are sent, or at most max bytes after their count, and the challenger does not observe them
+  -- the same, and the challenger does not observe them
   abbrev pub hints : List ℕ → ℕ → Play S Symbol F EF O
   hints label len = sends (bytes_step kind.Hint label (lengths.Fixed len)) bytes_in (HasLength len) (HasLength len)
-      (meaning.hinted label) (λ _. Nothing)
+      (λ bytes. bytes) untouched (λ _. Nothing)
 
   abbrev pub hints_counted : List ℕ → ℕ → Play S Symbol F EF O
   hints_counted label max = sends (bytes_step kind.Hint label (lengths.Bounded max)) bytes_in Any (HasAtMost max)
-      (meaning.hinted_bounded label max) (λ _. Nothing)
+      (after_their_count max (λ bytes. bytes)) untouched (λ _. Nothing)
 
   -- ---- elements of an algebra, each absorbed as its coefficients
 
@@ -64,51 +70,37 @@ module _ {S Symbol I F EF O Ac : Type 0} (rules : Rules S Symbol I F EF O Ac) wh
   abbrev pub elements_absorbed : {A : Type 0} → Coding S Symbol F A → List A → Absorbed F O
   elements_absorbed coding xs = Elements (map coding.coefficients xs)
 
-  -- both sides know one element, or a list of them
+  -- both sides know one element, a list of them, or a list of at most max elements, which follow their count
   abbrev pub knows_one : {A : Type 0} → Coding S Symbol F A → Kind → List ℕ → A → Play S Symbol F EF O
   knows_one coding kind label x = known (algebra_step kind label coding.algebra lengths.Scalar) no_challenge
       (observing coding.observation x) (element_absorbed coding x)
 
-  abbrev pub list_known : {A : Type 0} → Coding S Symbol F A → Kind → List ℕ → List A → Meaning S Symbol (List A)
-  list_known coding kind label xs =
-      meaning.observed_list (algebra_step kind label coding.algebra (lengths.Fixed (list.length xs))) coding.observation xs
-
   abbrev pub knows_list : {A : Type 0} → Coding S Symbol F A → Kind → List ℕ → List A → Play S Symbol F EF O
-  knows_list coding kind label xs =
-      let m = list_known coding kind label xs in known m.interaction no_challenge m.effect (elements_absorbed coding xs)
-
-  -- both sides know a list of at most max elements, which follow their count
-  abbrev pub counted_known : {A : Type 0} → Coding S Symbol F A → Kind → List ℕ → List A → ℕ → Meaning S Symbol (List A)
-  counted_known coding kind label xs max = meaning.observed_bounded
-      (algebra_step kind label coding.algebra (lengths.Bounded max)) rules.alphabet max coding.observation xs
+  knows_list coding kind label xs = known (algebra_step kind label coding.algebra (lengths.Fixed (list.length xs)))
+      no_challenge (observing_list coding.observation xs) (elements_absorbed coding xs)
 
   abbrev pub knows_counted : {A : Type 0} → Coding S Symbol F A → Kind → List ℕ → List A → ℕ → Play S Symbol F EF O
   knows_counted coding kind label xs max =
-      let m = counted_known coding kind label xs max in
-      known_within m.interaction (list.length xs) max m.effect (elements_absorbed coding xs)
+      known_within (algebra_step kind label coding.algebra (lengths.Bounded max)) (list.length xs) max
+      (counting max (observing_list coding.observation) xs) (elements_absorbed coding xs)
 
   -- one element is sent, or exactly n elements, or at most max elements after their count
   abbrev pub sends_one : {A : Type 0} → Coding S Symbol F A → (Value F EF → Option A) → List ℕ → Play S Symbol F EF O
-  sends_one coding found label =
-      let one = algebra_step kind.Message label coding.algebra lengths.Scalar in
-      sends one found Any Any (meaning.sent one coding.observation coding.encoding) (element_absorbed coding)
-
-  abbrev pub list_sent : {A : Type 0} → Coding S Symbol F A → List ℕ → List A → Meaning S Symbol (List A)
-  list_sent coding label xs =
-      meaning.sent_list (algebra_step kind.Message label coding.algebra (lengths.Fixed (list.length xs)))
-      coding.observation coding.encoding xs
+  sends_one coding found label = sends (algebra_step kind.Message label coding.algebra lengths.Scalar) found Any Any
+      coding.encoding.wire (observing coding.observation) (element_absorbed coding)
 
   abbrev pub sends_list : {A : Type 0} → Coding S Symbol F A → (Value F EF → Option (List A)) → List ℕ → ℕ →
       Play S Symbol F EF O
-  sends_list coding found label n = let step = algebra_step kind.Message label coding.algebra (lengths.Fixed n) in
-      sends step found (HasLength n) (HasLength n) (list_sent coding label) (elements_absorbed coding)
+  sends_list coding found label n = sends (algebra_step kind.Message label coding.algebra (lengths.Fixed n)) found
+      (HasLength n) (HasLength n) (flat_map coding.encoding.wire) (observing_list coding.observation)
+      (elements_absorbed coding)
 
   abbrev pub sends_counted : {A : Type 0} → Coding S Symbol F A → (Value F EF → Option (List A)) → List ℕ → ℕ →
       Play S Symbol F EF O
   sends_counted coding found label max =
-      let some = algebra_step kind.Message label coding.algebra (lengths.Bounded max) in
-      sends some found Any (HasAtMost max)
-      (meaning.sent_bounded some rules.alphabet max coding.observation coding.encoding) (elements_absorbed coding)
+      sends (algebra_step kind.Message label coding.algebra (lengths.Bounded max)) found Any (HasAtMost max)
+      (after_their_count max (flat_map coding.encoding.wire)) (counting max (observing_list coding.observation))
+      (elements_absorbed coding)
 
   -- ---- challenges
 

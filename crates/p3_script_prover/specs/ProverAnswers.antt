@@ -1,9 +1,9 @@
 -- What a prover returns for a step of a script, and for a whole script.
 use Rattle.std.specs.{Prelude.{◌≡◌, List, length, ◌++◌, ◌⊎◌, Option, Some, None, Result, MatchResult}, Borrow.Bor}
 use Rattle.p3_fs_core.specs.declared.error.TranscriptError.{TheVariants.OutOfMemory, TranscriptError}
-use Rattle.p3_runs.specs.{Rules.Rules, Provings.{RefusesToProve, IsProverRun, IsProved}, Stepping.{one_witness, Halts}}
+use Rattle.p3_runs.specs.{Rules.Rules, Provings.{RefusesToProve, IsProverRun, IsProved}, Stepping.Halts}
 use Rattle.p3_runs.specs.{Plays.{meaning, Play}, Sides.Sides, Runs.{carried_count, if_witness, if_sent}, Fronts.Run}
-use Rattle.p3_runs.specs.{Values.{Challenge, IsNothing, Nothing, Witness, Value}, Verdicts.with_steps}
+use Rattle.p3_runs.specs.{Values.{Challenge, IsNothing, Nothing, Witness, Value, one_witness}, Verdicts.with_steps}
 use Rattle.p3_script.specs.ScriptRefusals.{sides_of}
 use Rattle.p3_script.specs.{Scripts.{play_of, challenges_of, value_sent, drawn_of}, declared.fault.Fault.Fault}
 use Rattle.p3_script.specs.declared.steps.{Drawn.Drawn, Sent.Sent}

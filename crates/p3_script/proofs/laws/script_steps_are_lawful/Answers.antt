@@ -8,7 +8,7 @@ use Rattle.p3_runs.specs.Rules.{Rules}
 use Rattle.p3_script.{proofs.{Canonical.step-canonical, Determined.step-determined}, specs.SuiteRules.rules_of}
 use Rattle.p3_script.proofs.Possible.{IsRefusedForMemory, known_with-refused, known-refused, counted-refused}
 use Rattle.p3_script.proofs.Possible.{sends-refused, within_refused, untouched-tells, witness-refused, carried-refused}
-use Rattle.p3_script.{specs.{Scripts.{play_of, list_sent, counted_known}, ScriptRefusals.sides_of}}
+use Rattle.p3_script.{specs.{Scripts.play_of, ScriptRefusals.{sides_of, list_sent, counted_known}}}
 use Rattle.p3_script.proofs.laws.script_steps_are_lawful.Given.{Over}
 use Rattle.std.specs.Prelude as list
 use Rattle.p3_fs_core.specs.declared.step.Kind.TheVariants as kind
