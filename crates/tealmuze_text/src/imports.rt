@@ -93,12 +93,12 @@ fn write_import(text: &mut String, code: &str, path: &str, imports: &[Import]) -
         return Ok(());
     }
     let (open, close) = if count == 1 { ("", "") } else { ("{", "}") };
-    let mut before = open;
-    write!(text, "use {path}::")?;
+    write!(text, "use {path}::{open}")?;
+    let begun = text.len();
     for (name, mark) in imports {
         if code.contains(*mark) {
+            let before = if text.len() == begun { "" } else { ", " };
             write!(text, "{before}{name}")?;
-            before = ", ";
         }
     }
     writeln!(text, "{close};")?;
