@@ -14,7 +14,7 @@ pub sent-taken : {S Symbol F EF O A : Type 0} (i : Step) (found : Value F EF →
     (sent : A → Meaning S Symbol A) (absorbed : A → Absorbed F O) (r : Reading S Symbol A)
     (before after : Driving S) (v : Value F EF) (x : A) → r.interaction ≡ i → r.effect x ≡ (sent x).effect →
     OnlyReads r IsFit sent → AreBytes before.bytes → found v ≡ Some x → Receives r before x after →
-    TakesStep (sends i found IsHanded IsFit sent absorbed) None before (v ∷ []) None after
+    TakesStep (sends i found IsHanded IsFit (λ x. (sent x).wire) (λ x. (sent x).effect) absorbed) None before (v ∷ []) None after
 sent-taken {S} {Symbol} {F} {EF} {O} {A} i found IsHanded IsFit sent absorbed r before after v x named same only bytes is p =
     record {
       value = v;
@@ -39,9 +39,9 @@ pub sent-taken_then : {S Symbol F EF O A : Type 0} (i : Step) (found : Value F E
     (r : Reading S Symbol A) (before after there : Driving S) (v : Value F EF) (x : A) →
     r.interaction ≡ i → r.effect x ≡ (sent x).effect → OnlyReads r IsFit sent → AreBytes before.bytes →
     found v ≡ Some x → Receives r before x after → there ≡ after →
-    TakesStep (sends i found IsHanded IsFit sent absorbed) None before (v ∷ []) None there
+    TakesStep (sends i found IsHanded IsFit (λ x. (sent x).wire) (λ x. (sent x).effect) absorbed) None before (v ∷ []) None there
 sent-taken_then i found IsHanded IsFit sent absorbed r before after there v x named same only bytes is p stays =
-    subst (λ d. TakesStep (sends i found IsHanded IsFit sent absorbed) None before (v ∷ []) None d) (sym stays)
+    subst (λ d. TakesStep (sends i found IsHanded IsFit (λ x. (sent x).wire) (λ x. (sent x).effect) absorbed) None before (v ∷ []) None d) (sym stays)
     (sent-taken i found IsHanded IsFit sent absorbed r before after v x named same only bytes is p)
 
 -- memory was refused
