@@ -11,7 +11,7 @@ IsCodeOn {T} IsValue encoding =
 
 -- ---- lists of one length, numbers, texts, and bytes after their number
 
-same_length-code : (xs ys a b : List ℕ) → length xs ≡ length ys → xs ++ a ≡ ys ++ b → (xs ≡ ys) × (a ≡ b)
+pub same_length-code : (xs ys a b : List ℕ) → length xs ≡ length ys → xs ++ a ≡ ys ++ b → (xs ≡ ys) × (a ≡ b)
 same_length-code [] [] a b same e = (refl, e)
 same_length-code [] (y ∷ ys) a b same e = absurd (omega (arith, same))
 same_length-code (x ∷ xs) [] a b same e = absurd (omega (arith, same))

@@ -1,6 +1,9 @@
 pub mod Forms
 pub mod Readings
+pub mod DigestLaws
 pub mod Descriptions
 pub mod Rooms
 pub mod Told
+pub mod Alike
 pub mod Written
+pub mod Sufficing

@@ -16,6 +16,7 @@ mod description;
 mod proving;
 mod readings;
 mod room;
+mod rooms;
 mod steps;
 mod suites;
 mod telling;
@@ -26,7 +27,10 @@ mod verifying;
 mod words;
 
 use crate::calls::Calls;
-pub use crate::readings::description_has_one_reading;
+pub use crate::readings::{
+    described_protocols_are_alike, description_has_one_reading, verdicts_are_of_what_is_described,
+};
+pub use crate::rooms::wanted_room_suffices;
 use crate::telling::tell;
 use p3_symmetric::Sha256Hasher;
 use std::alloc::Global;

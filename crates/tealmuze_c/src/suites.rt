@@ -1,6 +1,8 @@
 //! The suites that a description can name.
-ghost use Rattle.std.specs.Prelude.{◌≡◌, ℕ, List, [], map, IfOk};
-ghost use Rattle.p3_challenger.specs.{Digests.values_of, HashCalls.with_pending};
+ghost use Rattle.std.specs.Prelude.{◌≡◌, ◌≤◌, ℕ, List, [], map, IfOk};
+ghost use Rattle.std.proofs.Common.{lit≤};
+ghost use Rattle.p3_challenger.specs.{Digests.values_of, HashCalls.with_pending, HashValueLaws.values-injective};
+ghost use Rattle.tealmuze_c.specs.DigestLaws.{bytes-one};
 
 use crate::unanswered::Unanswered;
 use crate::words::digest;
@@ -33,6 +35,14 @@ pub trait Called: Suite {
     /// The opaque value of these numbers.
     fn opaque(alloc: Global, numbers: &[u64]) -> Result<Self::Opaque, Unanswered>
         ensures { IfOk result (λ x. opaque_numbers x ≡ numbers.now) };
+
+    // No two opaque values are encoded alike.
+    ghost one_opaque: { (x y : Self.Opaque) → opaque_numbers x ≡ opaque_numbers y → x ≡ y };
+
+    // A scalar has few bytes in a proof, and its number few bits.
+    ghost few_bytes: { Self.Codec.encoding.width ≤ 64 };
+
+    ghost few_bits: { Self.Field.bit_length ≤ 64 };
 }
 
 impl Called for HashSuite<Sha256Hasher> {
@@ -47,6 +57,12 @@ impl Called for HashSuite<Sha256Hasher> {
     fn opaque(alloc: Global, numbers: &[u64]) -> Result<[u8; 32], Unanswered> {
         digest::<u8, 32>(alloc, numbers)
     }
+
+    ghost one_opaque = { bytes-one };
+
+    ghost few_bytes = { lit≤ tt };
+
+    ghost few_bits = { lit≤ tt };
 }
 
 impl Called for Serializing32Suite<Sha256Hasher, Sha256Hasher> {
@@ -64,4 +80,10 @@ impl Called for Serializing32Suite<Sha256Hasher, Sha256Hasher> {
     fn opaque(alloc: Global, numbers: &[u64]) -> Result<Hash<BabyBear, u8, 32>, Unanswered> {
         Ok(Hash::from(digest::<u8, 32>(alloc, numbers)?))
     }
+
+    ghost one_opaque = { λ x y same. values-injective x y (bytes-one (values_of x) (values_of y) same) };
+
+    ghost few_bytes = { lit≤ tt };
+
+    ghost few_bits = { lit≤ tt };
 }

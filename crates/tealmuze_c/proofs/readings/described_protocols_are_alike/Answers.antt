@@ -1,0 +1,13 @@
+use Rattle.std.proofs.Common.{ap, sym, ◌∙◌}
+use Rattle.tealmuze_c.proofs.Alike.{described-alike}
+use Rattle.tealmuze_c.proofs.readings.described_protocols_are_alike.Goals as goal
+
+pub returns : goal.returns
+returns g c =
+    let ring = g.S.Field.PrimeCharacteristicRing in
+    let space = g.S.Extension.BasedVectorSpace in
+    let met = g.met.S.Extension.BasedVectorSpace in
+    let is = g.met.S.Field.PrimeCharacteristicRing.are_residues in
+    described-alike ring.residues.number space.coefficients g.S.Called.opaque_numbers space.DIMENSION met.at_least_one
+    (λ x y same. sym (is.of_number x) ∙ ap ring.residues.of same ∙ is.of_number y)
+    met.length_coefficients met.same_coefficients g.met.S.Called.one_opaque _
