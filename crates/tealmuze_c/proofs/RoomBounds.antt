@@ -9,7 +9,7 @@ use Rattle.p3_challenger.specs.Step as script
 use Rattle.p3_challenger.specs.Values as value
 use Rattle.tealmuze_c.specs.Descriptions.{Describes, HasForm}
 use Rattle.tealmuze_c.specs.Forms.{number_bytes, counted_bytes, listed_bytes, scalar_bytes, value_bytes, challenge_bytes}
-use Rattle.tealmuze_c.specs.{Readings.FitsWord, Rooms.{drawn_room, room_for}, Sufficing.RoomSuffices}
+use Rattle.tealmuze_c.specs.{Readings.FitsWord, Rooms.drawn_room, Sufficing.RoomSuffices}
 use Rattle.tealmuze_c.specs.Told.{TellsAccepted, TellsOfProof, TellsProved, TellsOfValues}
 use Rattle.tealmuze_c.specs.Told.{TellsOfDescribed, WantsForDescribed, EncodesValues}
 use Rattle.tealmuze_c.specs.Written.{BySuite, IsNoVerdict}
@@ -165,10 +165,13 @@ module _ (Su U C K D G : Type 0) {F EF O Ac I S Symbol : Type 0} (rules : Rules 
     (coded : (x : EF) → rules.extension.encoding.wire x ≡ flat_map rules.scalar.encoding.wire (coefficients x))
     (some : (x : F) → 1 ≤ length (rules.scalar.encoding.wire x))
     (short : (x : F) → length (rules.scalar.encoding.wire x) ≤ 64)
-    (witness_short : (x : F) → length (rules.witness_encoding.wire x) ≤ 23) where
+    (witness_short : (x : F) → length (rules.witness_encoding.wire x) ≤ 23)
+    (room : List (script.Step Su F EF U O C K Ac D G I S Symbol) → ℕ → ℕ)
+    (room_is : (steps : List (script.Step Su F EF U O C K Ac D G I S Symbol)) (len : ℕ) → room steps len
+    ≡ min (1024 + len * 8 + sum_by (λ s. 40 + drawn_room dimension s) steps) (2 ^ 64 - 1)) where
   abbrev Wanted : List ℕ → ℕ → ℕ → Type 0
   Wanted description len wanted = WantsForDescribed Su U C K D G rules number coefficients opaque_numbers description
-      (λ steps. room_for dimension steps len) wanted
+      (λ steps. room steps len) wanted
 
   -- two readings have as many steps, and these draw as much
   same_room : (description : List ℕ) (one other : DomainSeparator U D)
@@ -183,11 +186,12 @@ module _ (Su U C K D G : Type 0) {F EF O Ac I S Symbol : Type 0} (rules : Rules 
   one_wanted : (description : List ℕ) (len wanted other : ℕ) → Wanted description len wanted →
       Wanted description len other → wanted ≡ other
   one_wanted description len wanted other h k =
-      h.wanted_is ∙ ap (λ n. min (1024 + len * 8 + n) (2 ^ 64 - 1))
-      (same_room description h.separator k.separator h.steps k.steps h.describes k.describes) ∙ sym k.wanted_is
+      h.wanted_is ∙ room_is h.steps len ∙ ap (λ n. min (1024 + len * 8 + n) (2 ^ 64 - 1))
+      (same_room description h.separator k.separator h.steps k.steps h.describes k.describes)
+      ∙ sym (room_is k.steps len) ∙ sym k.wanted_is
 
   least_wanted : (description : List ℕ) (len wanted : ℕ) → Wanted description len wanted → 1024 ≤ wanted
-  least_wanted description len wanted h = omega (arith, h.wanted_is)
+  least_wanted description len wanted h = omega (arith, h.wanted_is, room_is h.steps len)
 
   pub room_for_proofs : (IsFresh : S → Type 0) (description proof carried : List ℕ) → RoomSuffices
       (λ told. TellsOfDescribed Su U C K D G rules number coefficients opaque_numbers IsFresh description
@@ -197,6 +201,7 @@ module _ (Su U C K D G : Type 0) {F EF O Ac I S Symbol : Type 0} (rules : Rules 
         arith,
         fits,
         wants.wanted_is,
+        room_is wants.steps (length proof),
         same_room description says.separator wants.separator says.steps wants.steps says.describes wants.describes,
         told-short rules number coefficients opaque_numbers dimension long coded some short witness_short
             (script_of says.start says.separator says.steps) proof carried told says.describes.formed says.tells,
@@ -211,6 +216,7 @@ module _ (Su U C K D G : Type 0) {F EF O Ac I S Symbol : Type 0} (rules : Rules 
         arith,
         fits,
         wants.wanted_is,
+        room_is wants.steps (length values),
         same_room description says.separator wants.separator says.steps wants.steps says.describes wants.describes,
         ap (λ bytes. length bytes) says.tells.encoded,
         values-short rules number coefficients opaque_numbers dimension long coded some short witness_short

@@ -1,5 +1,6 @@
 use Rattle.std.proofs.Common.{ap, sym, ◌∙◌, refl, arith}
 use Rattle.p3_challenger.specs.{BigEndian.bytes_for, BigEndianLaws.length-in_bytes}
+use Rattle.tealmuze_c.specs.Rooms.{room_for}
 use Rattle.tealmuze_c.proofs.RoomBounds.{room_for_proofs, room_for_values}
 use Rattle.tealmuze_c.proofs.rooms.room_of_suite_suffices.Goals as goal
 
@@ -16,7 +17,7 @@ returns-clause-verify g c =
     met.length_coefficients met.same_coefficients g.met.S.Called.one_opaque (λ x. refl)
     (λ x. omega (arith, width x, g.met.S.Codec.ScalarCodec.some)) (λ x. omega (arith, width x, g.met.S.Called.few_bytes))
     (λ x. omega (arith, length-in_bytes (bytes_for g.S.Field.Field.bit_length) (ring.residues.number x), g.met.S.Called.few_bits))
-    g.S.Called.is_fresh
+    (room_for space.DIMENSION) (λ steps len. refl) g.S.Called.is_fresh
 
 pub returns-clause-prove : goal.returns-clause-prove
 returns-clause-prove g c =
@@ -31,4 +32,4 @@ returns-clause-prove g c =
     met.length_coefficients met.same_coefficients g.met.S.Called.one_opaque (λ x. refl)
     (λ x. omega (arith, width x, g.met.S.Codec.ScalarCodec.some)) (λ x. omega (arith, width x, g.met.S.Called.few_bytes))
     (λ x. omega (arith, length-in_bytes (bytes_for g.S.Field.Field.bit_length) (ring.residues.number x), g.met.S.Called.few_bits))
-    g.S.Called.is_fresh
+    (room_for space.DIMENSION) (λ steps len. refl) g.S.Called.is_fresh
