@@ -1,2 +1,12 @@
 pub mod Codes
 pub mod Lemmas
+pub mod Rest
+pub mod Dues
+pub mod Numbers
+pub mod Views
+pub mod Plays
+pub mod Readers
+pub mod Labels
+pub mod Handed
+pub mod Sendable
+pub mod Answered

@@ -1,5 +1,6 @@
 pub mod Forms
 pub mod Readings
+pub mod Errors
 pub mod Descriptions
 pub mod Rooms
 pub mod Told
