@@ -5,7 +5,7 @@ use Rattle.std.proofs.lemmas.{Nat.from_le_bytes-to_le_bytes_8, List.Elements.{Al
 use Rattle.tealmuze_c.specs.Forms.{number_bytes, text_bytes, counted_bytes, listed_bytes}
 use Rattle.tealmuze_c.specs.Readings.{parts_bytes, Reading, reading_bytes, FitsWord, IsListHeld, IsHeld}
 
-abbrev IsCodeOn : {T : Type 0} → (T → Type 0) → (T → List ℕ) → Type 0
+abbrev pub IsCodeOn : {T : Type 0} → (T → Type 0) → (T → List ℕ) → Type 0
 IsCodeOn {T} IsValue encoding =
     (x y : T) (a b : List ℕ) → IsValue x → IsValue y → encoding x ++ a ≡ encoding y ++ b → (x ≡ y) × (a ≡ b)
 
@@ -21,7 +21,7 @@ same_length-code (x ∷ xs) (y ∷ ys) a b same e =
     let others = same_length-code xs ys a b (omega (arith, same)) rest in
     (ap (λ z. z ∷ xs) first ∙ ap (λ zs. y ∷ zs) others.0, others.1)
 
-number-code : IsCodeOn FitsWord number_bytes
+pub number-code : IsCodeOn FitsWord number_bytes
 number-code m n a b m_fits n_fits e =
     let both = same_length-code (number_bytes m) (number_bytes n) a b refl e in (
       sym (from_le_bytes-to_le_bytes_8 m m_fits) ∙ ap (λ bytes. from_le_bytes w64 bytes) both.0
@@ -29,13 +29,13 @@ number-code m n a b m_fits n_fits e =
       both.1,
     )
 
-text-code : (x y a b : List ℕ) → text_bytes x ++ a ≡ text_bytes y ++ b → (x ≡ y) × (a ≡ b)
+pub text-code : (x y a b : List ℕ) → text_bytes x ++ a ≡ text_bytes y ++ b → (x ≡ y) × (a ≡ b)
 text-code x y a b e =
     let same : length x ≡ length y = cc in
     let rest : x ++ a ≡ y ++ b = cc in
     same_length-code x y a b same rest
 
-counted-code : IsCodeOn (λ bytes. FitsWord (length bytes)) counted_bytes
+pub counted-code : IsCodeOn (λ bytes. FitsWord (length bytes)) counted_bytes
 counted-code x y a b x_fits y_fits e =
     let both = number-code (length x) (length y) (x ++ a) (y ++ b) x_fits y_fits
     (sym (append_assoc (number_bytes (length x)) x a) ∙ e ∙ append_assoc (number_bytes (length y)) y b) in
@@ -44,7 +44,7 @@ counted-code x y a b x_fits y_fits e =
 -- ---- lists
 
 module _ {T : Type 0} (IsValue : T → Type 0) (encoding : T → List ℕ) (code : IsCodeOn IsValue encoding) where
-  row-code : (xs ys : List T) (a b : List ℕ) → All IsValue xs → All IsValue ys → length xs ≡ length ys →
+  pub row-code : (xs ys : List T) (a b : List ℕ) → All IsValue xs → All IsValue ys → length xs ≡ length ys →
       flat_map encoding xs ++ a ≡ flat_map encoding ys ++ b → (xs ≡ ys) × (a ≡ b)
   row-code [] [] a b p q same e = (refl, e)
   row-code [] (y ∷ ys) a b p q same e = absurd (omega (arith, same))
@@ -56,7 +56,7 @@ module _ {T : Type 0} (IsValue : T → Type 0) (encoding : T → List ℕ) (code
       let others = row-code xs ys a b (All-tail IsValue x xs p) (All-tail IsValue y ys q) (omega (arith, same)) first.1 in
       (ap (λ z. z ∷ xs) first.0 ∙ ap (λ zs. y ∷ zs) others.0, others.1)
 
-  listed-code : IsCodeOn (IsListHeld IsValue) (listed_bytes encoding)
+  pub listed-code : IsCodeOn (IsListHeld IsValue) (listed_bytes encoding)
   listed-code xs ys a b xs_held ys_held e =
       let both = number-code (length xs) (length ys) (flat_map encoding xs ++ a) (flat_map encoding ys ++ b)
       xs_held.count ys_held.count (sym (append_assoc (number_bytes (length xs)) (flat_map encoding xs) a) ∙ e
@@ -65,7 +65,7 @@ module _ {T : Type 0} (IsValue : T → Type 0) (encoding : T → List ℕ) (code
 
 -- ---- steps, and what a description says
 
-parts-code : IsCodeOn (λ parts. IsListHeld FitsWord parts.numbers) parts_bytes
+pub parts-code : IsCodeOn (λ parts. IsListHeld FitsWord parts.numbers) parts_bytes
 parts-code p q a b p_held q_held e =
     let what : p.what ≡ q.what = cc in
     let rest : (text_bytes p.label ++ listed_bytes number_bytes p.numbers) ++ a

@@ -1,5 +1,5 @@
 -- Lists that grow at their ends, and bytes of them.
-use Rattle.std.proofs.Common.{Option, Some, None, Ok, ok_or, append-nil, ◌≡◌, ◌<◌, ◌≤◌, ◌+◌, ℕ, List, [], ◌∷◌, ◌++◌, length, map, take, take_all, get_or, refl, ap, sym, ◌∙◌, append_assoc}
+use Rattle.std.proofs.Common.{Option, Some, None, Ok, Err, ok_or, append-nil, ◌≡◌, ◌<◌, ◌≤◌, ◌+◌, ℕ, List, [], ◌∷◌, ◌++◌, length, map, take, take_all, get_or, refl, ap, sym, ◌∙◌, append_assoc}
 use Rattle.std.specs.List.{flat_map}
 use Rattle.std.proofs.lemmas.List.{flat_map_more, map_push, map_more, length-map}
 use Rattle.tealmuze_c.specs.Forms.{number_bytes, listed_bytes}
@@ -51,6 +51,10 @@ listed_of g f xs =
 pub some_of_ok : {T E : Type 0} (o : Option T) (e : E) (x : T) → ok_or o e ≡ Ok x → o ≡ Some x
 some_of_ok None e x is = cc
 some_of_ok (Some y) e x is = cc
+
+pub none_of_err : {T E : Type 0} (o : Option T) (e d : E) → ok_or o e ≡ Err d → o ≡ None
+none_of_err None e d is = refl
+none_of_err (Some x) e d is = cc
 
 -- ---- parts that are read one after another
 

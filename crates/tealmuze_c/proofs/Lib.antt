@@ -6,3 +6,13 @@ pub mod RoomBounds
 pub mod SameRuns
 pub mod Sizes
 pub mod StepSizes
+pub mod Rest
+pub mod Dues
+pub mod Numbers
+pub mod Views
+pub mod Plays
+pub mod Readers
+pub mod Labels
+pub mod Handed
+pub mod Sendable
+pub mod Answered

@@ -1,13 +1,13 @@
 -- What the bytes of a description describe.
 use Rattle.std.specs.Prelude.{◌≡◌, ℕ, List, [], ◌∷◌, ◌++◌, map, flat_map}
-use Rattle.std.specs.List.{All}
+use Rattle.std.specs.{List.All, Str.IsUtf8}
 use Rattle.p3_challenger.specs.{SeparatorSeed.separator_of, DomainSeparator.DomainSeparator}
 use Rattle.p3_challenger.specs.Kind.{Kind}
 use Rattle.p3_challenger.specs.PatternSteps.{steps_of}
 use Rattle.p3_challenger.specs.{Rules.Rules, Runs.{AreAdmitted, interactions}}
 use Rattle.p3_challenger.specs.Scripts.{play_of}
 use Rattle.tealmuze_c.specs.Forms.{listed_bytes}
-use Rattle.tealmuze_c.specs.Readings.{Parts, parts_bytes, Reading, reading_bytes, FitsWord, IsListHeld, IsHeld}
+use Rattle.tealmuze_c.specs.Readings.{Parts, parts_bytes, Reading, reading_bytes, FitsWord, IsListHeld, IsHeld, AreTexts}
 use Rattle.p3_challenger.specs.Kind.TheVariants as kind
 use Rattle.p3_challenger.specs.Step as script
 use Rattle.p3_challenger.specs.Step.TheVariants as step
@@ -62,48 +62,59 @@ module _ {Su F EF U O C K Ac D G It St Sy : Type 0} (number : F → ℕ) (coeffi
   parts_of (step.ChallengeExtensionsRejecting label n accept limit) = record { what = 26; label = []; numbers = [] }
   parts_of (step.ChallengeUniformBitsRejecting label width n accept limit) = record { what = 26; label = []; numbers = [] }
 
-  -- the step has a form
-  abbrev pub HasForm : script.Step Su F EF U O C K Ac D G It St Sy → Type 0
-  HasForm (step.ChallengeExtensionsRejecting label n accept limit) = ⊥
-  HasForm (step.ChallengeUniformBitsRejecting label width n accept limit) = ⊥
-  HasForm _ = Unit {0}
-
   abbrev pub step_bytes : script.Step Su F EF U O C K Ac D G It St Sy → List ℕ
   step_bytes s = parts_bytes (parts_of s)
 
-  -- the step has a form, and these are its parts
-  pub record IsReadAs (what : ℕ) (label numbers : List ℕ) (s : script.Step Su F EF U O C K Ac D G It St Sy) : Type 0 where
-    pub formed : HasForm s
-    pub what_is : (parts_of s).what ≡ what
-    pub label_is : (parts_of s).label ≡ label
-    pub numbers_are : (parts_of s).numbers ≡ numbers
+  -- its label is a text
+  abbrev pub HasText : script.Step Su F EF U O C K Ac D G It St Sy → Type 0
+  HasText s = IsUtf8 (parts_of s).label
 
   -- a step's numbers, and how many they are, have a form of 8 bytes
   abbrev pub HasHeldParts : script.Step Su F EF U O C K Ac D G It St Sy → Type 0
   HasHeldParts s = IsListHeld FitsWord (parts_of s).numbers
-
-  -- some bytes begin with those of a step, and these come after it; and with those of steps, after their number
-  pub record IsRead (bytes left : List ℕ) (s : script.Step Su F EF U O C K Ac D G It St Sy) : Type 0 where
-    pub formed : HasForm s
-    pub held : HasHeldParts s
-    pub begins : bytes ≡ step_bytes s ++ left
-
-  pub record AreRead (bytes left : List ℕ) (steps : List (script.Step Su F EF U O C K Ac D G It St Sy)) : Type 0 where
-    pub formed : All HasForm steps
-    pub held : IsListHeld HasHeldParts steps
-    pub begins : bytes ≡ listed_bytes step_bytes steps ++ left
 
   -- what a description says of a protocol
   abbrev pub reading_of : DomainSeparator U D → List (script.Step Su F EF U O C K Ac D G It St Sy) → Reading
   reading_of separator steps = let s = separator_of separator in
       record { version = s.version; name = s.name; chunks = s.chunks; steps = map parts_of steps }
 
+module _ {Su F EF U O C K Ac D G It St Sy : Type 0} (number : F → ℕ) (coefficients : EF → List F)
+    (opaque_numbers : O → List ℕ) (AreOpaque : List ℕ → Type 0) where
+  -- the step has a form: an opaque value is one by its numbers, and no rule is code
+  abbrev pub HasForm : script.Step Su F EF U O C K Ac D G It St Sy → Type 0
+  HasForm (step.ChallengeExtensionsRejecting label n accept limit) = ⊥
+  HasForm (step.ChallengeUniformBitsRejecting label width n accept limit) = ⊥
+  HasForm (step.Opaque label x) = AreOpaque (opaque_numbers x)
+  HasForm _ = Unit {0}
+
+  -- the step has a form, and these are its parts
+  pub record IsReadAs (what : ℕ) (label numbers : List ℕ) (s : script.Step Su F EF U O C K Ac D G It St Sy) : Type 0 where
+    pub formed : HasForm s
+    pub what_is : (parts_of number coefficients opaque_numbers s).what ≡ what
+    pub label_is : (parts_of number coefficients opaque_numbers s).label ≡ label
+    pub numbers_are : (parts_of number coefficients opaque_numbers s).numbers ≡ numbers
+
+  -- some bytes begin with those of a step, and these come after it; and with those of steps, after their number
+  pub record IsRead (bytes left : List ℕ) (s : script.Step Su F EF U O C K Ac D G It St Sy) : Type 0 where
+    pub formed : HasForm s
+    pub text : HasText number coefficients opaque_numbers s
+    pub held : HasHeldParts number coefficients opaque_numbers s
+    pub begins : bytes ≡ step_bytes number coefficients opaque_numbers s ++ left
+
+  pub record AreRead (bytes left : List ℕ) (steps : List (script.Step Su F EF U O C K Ac D G It St Sy)) : Type 0 where
+    pub formed : All HasForm steps
+    pub texts : All (HasText number coefficients opaque_numbers) steps
+    pub held : IsListHeld (HasHeldParts number coefficients opaque_numbers) steps
+    pub begins : bytes ≡ listed_bytes (step_bytes number coefficients opaque_numbers) steps ++ left
+
   -- The bytes after the suite describe these steps under this separator: they say its version, its name, the chunks of
-  -- its instance's label, and the steps, each of which has a form and may be played; its pattern is theirs.
+  -- its instance's label, and the steps, each of which has a form and may be played; its pattern is theirs. The name and
+  -- the labels are texts.
   pub record Describes (rules : Rules St Sy It F EF O Ac) (bytes : List ℕ) (separator : DomainSeparator U D)
       (steps : List (script.Step Su F EF U O C K Ac D G It St Sy)) : Type 0 where
-    pub encoded : bytes ≡ reading_bytes (reading_of separator steps)
-    pub held : IsHeld (reading_of separator steps)
+    pub encoded : bytes ≡ reading_bytes (reading_of number coefficients opaque_numbers separator steps)
+    pub texts : AreTexts (reading_of number coefficients opaque_numbers separator steps)
+    pub held : IsHeld (reading_of number coefficients opaque_numbers separator steps)
     pub formed : All HasForm steps
     pub played : interactions (play_of rules) steps ≡ steps_of (separator_of separator).pattern
     pub admitted : AreAdmitted (play_of rules) steps

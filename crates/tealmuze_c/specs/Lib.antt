@@ -1,6 +1,7 @@
 pub mod Forms
 pub mod Readings
 pub mod DigestLaws
+pub mod Errors
 pub mod Descriptions
 pub mod Rooms
 pub mod Told

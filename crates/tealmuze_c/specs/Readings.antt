@@ -1,6 +1,6 @@
 -- What the bytes of a description say, whatever suite plays it.
-use Rattle.std.specs.Prelude.{ℕ, ◌<◌, ◌^◌, List, ◌∷◌, ◌++◌, length}
-use Rattle.std.specs.List.{All}
+use Rattle.std.specs.Prelude.{◌≡◌, ℕ, ◌<◌, ◌^◌, List, ◌∷◌, ◌++◌, length}
+use Rattle.std.specs.{List.All, Str.IsUtf8}
 use Rattle.tealmuze_c.specs.Forms.{number_bytes, text_bytes, counted_bytes, listed_bytes}
 
 -- A step in a description: what it is, its label, and some numbers.
@@ -26,10 +26,20 @@ reading_bytes r = r.version ∷ text_bytes r.name ++ (listed_bytes counted_bytes
 abbrev pub FitsWord : ℕ → Type 0
 FitsWord n = n < 2 ^ 64
 
+-- so many numbers, each such a number
+pub record AreSoMany (count : ℕ) (Is : ℕ → Type 0) (numbers : List ℕ) : Type 0 where
+  pub count_is : length numbers ≡ count
+  pub each : All Is numbers
+
 -- a list of so many, and each of its entries fits
 pub record IsListHeld {T : Type 0} (IsHeld : T → Type 0) (xs : List T) : Type 0 where
   pub count : FitsWord (length xs)
   pub each : All IsHeld xs
+
+-- the name and the labels are texts
+pub record AreTexts (r : Reading) : Type 0 where
+  pub name : IsUtf8 r.name
+  pub labels : All (λ parts. IsUtf8 parts.label) r.steps
 
 -- each number, length and count has a form of 8 bytes
 pub record IsHeld (r : Reading) : Type 0 where

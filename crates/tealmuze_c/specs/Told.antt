@@ -7,7 +7,9 @@ use Rattle.p3_challenger.specs.{Values.{Value, Challenge}, Verdicts.{Accepts, Ha
 use Rattle.p3_challenger.specs.{Scripts.play_of, ScriptRefusals.sides_of, Fault.Fault}
 use Rattle.tealmuze_c.specs.Descriptions.{Describes}
 use Rattle.tealmuze_c.specs.Forms.{number_bytes, counted_bytes, listed_bytes, scalar_bytes, value_bytes, challenge_bytes}
+use Rattle.tealmuze_c.specs.Readings.{FitsWord, IsListHeld}
 use Rattle.p3_challenger.specs.Step as script
+use Rattle.p3_challenger.specs.Values as value
 
 -- These numbers can be carried: as many are wanted, and each is that of an element.
 pub record CanBeCarried (count order : ℕ) (carried : List ℕ) : Type 0 where
@@ -83,7 +85,7 @@ module _ {Su F EF U O C K Ac D G It St Sy : Type 0} (rules : Rules St Sy It F EF
   TellsOfValues sent _ = ⊥
 
 module _ (Su U C K D G : Type 0) {F EF O Ac It St Sy : Type 0} (rules : Rules St Sy It F EF O Ac) (number : F → ℕ)
-    (coefficients : EF → List F) (opaque_numbers : O → List ℕ) where
+    (coefficients : EF → List F) (opaque_numbers : O → List ℕ) (AreOpaque : List ℕ → Type 0) where
   -- The bytes describe a protocol, and of its script, from a state of a challenger that observed nothing, this is told.
   pub record TellsOfDescribed (IsFresh : St → Type 0) (bytes : List ℕ)
       (Tells : Run (script.Step Su F EF U O C K Ac D G It St Sy) F EF St U D → Type 0) : Type 0 where
@@ -91,15 +93,23 @@ module _ (Su U C K D G : Type 0) {F EF O Ac It St Sy : Type 0} (rules : Rules St
     pub fresh : IsFresh start
     pub separator : DomainSeparator U D
     pub steps : List (script.Step Su F EF U O C K Ac D G It St Sy)
-    pub describes : Describes number coefficients opaque_numbers rules bytes separator steps
+    pub describes : Describes number coefficients opaque_numbers AreOpaque rules bytes separator steps
     pub tells : Tells (script_of start separator steps)
+
+  -- The bytes describe a protocol, and of its steps this is so.
+  pub record DescribesSome (bytes : List ℕ) (Is : List (script.Step Su F EF U O C K Ac D G It St Sy) → Type 0) :
+      Type 0 where
+    pub separator : DomainSeparator U D
+    pub steps : List (script.Step Su F EF U O C K Ac D G It St Sy)
+    pub describes : Describes number coefficients opaque_numbers AreOpaque rules bytes separator steps
+    pub such : Is steps
 
   -- The bytes describe a protocol, and for an answer of its steps so many bytes are wanted.
   pub record WantsForDescribed (bytes : List ℕ)
       (room : List (script.Step Su F EF U O C K Ac D G It St Sy) → ℕ) (wanted : ℕ) : Type 0 where
     pub separator : DomainSeparator U D
     pub steps : List (script.Step Su F EF U O C K Ac D G It St Sy)
-    pub describes : Describes number coefficients opaque_numbers rules bytes separator steps
+    pub describes : Describes number coefficients opaque_numbers AreOpaque rules bytes separator steps
     pub wanted_is : wanted ≡ room steps
 
 -- The bytes encode values, of which this is told.
@@ -108,3 +118,19 @@ pub record EncodesValues {F EF : Type 0} (number : F → ℕ) (coefficients : EF
   pub values : List (Value F EF)
   pub encoded : bytes ≡ listed_bytes (value_bytes number coefficients) values
   pub tells : Tells values
+
+-- a value that a prover may be handed, and its length has a form of 8 bytes
+abbrev pub IsSendable : {F EF : Type 0} → Value F EF → Type 0
+IsSendable (value.Bytes bytes) = FitsWord (length bytes)
+IsSendable (value.Scalar x) = Unit {0}
+IsSendable (value.Scalars xs) = FitsWord (length xs)
+IsSendable (value.Extension x) = Unit {0}
+IsSendable _ = ⊥
+
+-- the bytes encode values that may be sent, of which this is so
+pub record EncodesSendable {F EF : Type 0} (number : F → ℕ) (coefficients : EF → List F) (bytes : List ℕ)
+    (Are : List (Value F EF) → Type 0) : Type 0 where
+  pub values : List (Value F EF)
+  pub sendable : IsListHeld IsSendable values
+  pub encoded : bytes ≡ listed_bytes (value_bytes number coefficients) values
+  pub such : Are values

@@ -10,9 +10,9 @@ pub record IsUnasked (told : List ℕ) : Type 0 where
   pub short : length reason ≤ 1000
   pub told_is : told ≡ 2 ∷ reason
 
--- an answer that gives no verdict: nothing was asked that can be answered, or memory ran out
-abbrev pub IsNoVerdict : List ℕ → Type 0
-IsNoVerdict told = IsUnasked told ⊎ (told ≡ 3 ∷ [])
+-- an answer that gives no verdict: where this is not so, that nothing was asked that can be answered; or that memory ran out
+abbrev pub IsNoVerdict : (Unless : Type 0) → List ℕ → Type 0
+IsNoVerdict Unless told = (IsUnasked told × (Unless → ⊥)) ⊎ (told ≡ 3 ∷ [])
 
 -- An answer of which this is so is written where it fits in; where it does not, nothing is. Its length is returned.
 pub record IsTold (Says : List ℕ → Type 0) (before : List ℕ) (returned : ℕ) (after : List ℕ) : Type 0 where
@@ -26,10 +26,11 @@ pub record IsWanted (Wants : ℕ → Type 0) (before : List ℕ) (returned : ℕ
   pub more : length before < returned
   pub unchanged : after ≡ before
 
--- A call tells a verdict, or why it gives none; or how many bytes are wanted for its answer, where it has fewer.
-abbrev pub Answers : (IsVerdict : List ℕ → Type 0) (Wants : ℕ → Type 0) → List ℕ → ℕ → List ℕ → Type 0
-Answers IsVerdict Wants before returned after =
-    IsTold (λ told. IsVerdict told ⊎ IsNoVerdict told) before returned after ⊎ IsWanted Wants before returned after
+-- A call tells a verdict, or why it gives none, where nothing is asked; or how many bytes are wanted for its answer, where
+-- it has fewer.
+abbrev pub Answers : (IsVerdict : List ℕ → Type 0) (IsAsked : Type 0) (Wants : ℕ → Type 0) → List ℕ → ℕ → List ℕ → Type 0
+Answers IsVerdict IsAsked Wants before returned after =
+    IsTold (λ told. IsVerdict told ⊎ IsNoVerdict IsAsked told) before returned after ⊎ IsWanted Wants before returned after
 
 -- by what there is for the caller: a verdict, or how many bytes are wanted
 abbrev pub ByAnswer : (List ℕ → Type 0) → (ℕ → Type 0) → Answer → Type 0

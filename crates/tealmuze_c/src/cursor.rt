@@ -1,7 +1,9 @@
 //! Bytes that are read from the front.
-ghost use Rattle.std.specs.Prelude.{◌≡◌, ◌∷◌, ◌++◌, [], length, map, IfOk, IsTrue, flat_map};
+ghost use Rattle.std.specs.Prelude.{◌≡◌, ◌<◌, ◌↔◌, ◌∷◌, ◌++◌, [], length, map, IfOk, IfErr, OnErr, IsTrue, flat_map};
+ghost use Rattle.std.specs.Str.{IsUtf8};
 ghost use Rattle.tealmuze_c.specs.Forms.{number_bytes, text_bytes, counted_bytes, listed_bytes};
-ghost use Rattle.tealmuze_c.specs.Readings.{FitsWord, IsListHeld};
+ghost use Rattle.tealmuze_c.specs.Readings.{FitsWord, IsListHeld, AreSoMany};
+ghost use Rattle.tealmuze_c.specs.Errors.{IsDueTo, BeginsWithNone};
 
 use crate::unanswered::Unanswered;
 use std::alloc::Global;
@@ -24,6 +26,7 @@ impl<'a> Cursor<'a> {
     pub fn bytes(&mut self, count: usize) -> Result<&'a [u8], Unanswered>
         ensures read { IfOk result (λ head. self.old.left.now ≡ head.now ++ self.new.left.now) }
         ensures count { IfOk result (λ head. length head.now ≡ count) }
+        ensures err { OnErr result (length self.old.left.now < count) }
     {
         match self.left.split_at_checked(count) {
             Some((head, left)) => {
@@ -36,7 +39,8 @@ impl<'a> Cursor<'a> {
 
     /// The next byte.
     pub fn byte(&mut self) -> Result<u8, Unanswered>
-        ensures { IfOk result (λ byte. self.old.left.now ≡ byte ∷ self.new.left.now) }
+        ensures read { IfOk result (λ byte. self.old.left.now ≡ byte ∷ self.new.left.now) }
+        ensures err { OnErr result (self.old.left.now ≡ []) }
     {
         match self.left {
             [byte, left @ ..] => {
@@ -49,7 +53,8 @@ impl<'a> Cursor<'a> {
 
     /// The next number, of 8 bytes, the lowest first.
     pub fn number(&mut self) -> Result<u64, Unanswered>
-        ensures { IfOk result (λ number. self.old.left.now ≡ number_bytes number ++ self.new.left.now) }
+        ensures read { IfOk result (λ number. self.old.left.now ≡ number_bytes number ++ self.new.left.now) }
+        ensures err { OnErr result (length self.old.left.now < 8) }
     {
         match self.left.split_first_chunk::<8>() {
             Some((head, left)) => {
@@ -64,6 +69,8 @@ impl<'a> Cursor<'a> {
     pub fn counted(&mut self) -> Result<&'a [u8], Unanswered>
         ensures held { IfOk result (λ bytes. FitsWord (length bytes.now)) }
         ensures read { IfOk result (λ bytes. self.old.left.now ≡ counted_bytes bytes.now ++ self.new.left.now) }
+        ensures err { OnErr result
+            (BeginsWithNone (λ bytes. FitsWord (length bytes)) counted_bytes self.old.left.now) }
     {
         let count = self.number()?;
         self.bytes(count as usize)
@@ -71,7 +78,9 @@ impl<'a> Cursor<'a> {
 
     /// The next text, after its length in one byte.
     pub fn text(&mut self) -> Result<&'a str, Unanswered>
-        ensures { IfOk result (λ text. self.old.left.now ≡ text_bytes text.now ++ self.new.left.now) }
+        ensures held { IfOk result (λ text. IsUtf8 text.now) }
+        ensures read { IfOk result (λ text. self.old.left.now ≡ text_bytes text.now ++ self.new.left.now) }
+        ensures err { OnErr result (BeginsWithNone IsUtf8 text_bytes self.old.left.now) }
     {
         let len = self.byte()?;
         let bytes = self.bytes(len as usize)?;
@@ -86,6 +95,8 @@ impl<'a> Cursor<'a> {
         ensures held { IfOk result (λ numbers. IsListHeld FitsWord numbers.items) }
         ensures read { IfOk result (λ numbers.
             self.old.left.now ≡ listed_bytes number_bytes numbers.items ++ self.new.left.now) }
+        ensures err { IfErr result
+            (IsDueTo (BeginsWithNone (IsListHeld FitsWord) (listed_bytes number_bytes) self.old.left.now)) }
     {
         let count = self.number()?;
         self.so_many(alloc, count as usize)
@@ -97,6 +108,8 @@ impl<'a> Cursor<'a> {
         ensures read { IfOk result (λ numbers.
             self.old.left.now ≡ flat_map number_bytes numbers.items ++ self.new.left.now) }
         ensures count { IfOk result (λ numbers. length numbers.items ≡ count) }
+        ensures err { IfErr result
+            (IsDueTo (BeginsWithNone (AreSoMany count FitsWord) (flat_map number_bytes) self.old.left.now)) }
     {
         let mut numbers = Vec::new(alloc);
         for read in 0..count {
@@ -107,7 +120,7 @@ impl<'a> Cursor<'a> {
 
     /// Whether none is left.
     pub fn is_empty(&self) -> bool
-        ensures { IsTrue result → self.now.left.now ≡ [] }
+        ensures { IsTrue result ↔ self.now.left.now ≡ [] }
     {
         self.left.is_empty()
     }

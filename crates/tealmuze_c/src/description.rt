@@ -1,9 +1,11 @@
 //! A protocol, as its description has it.
-ghost use Rattle.std.specs.Prelude.{◌≡◌, ◌++◌, length, map, IfOk};
+ghost use Rattle.std.specs.Prelude.{◌≡◌, ℕ, List, ◌++◌, length, map, IfOk, IfErr};
 ghost use Rattle.p3_challenger.specs.{PatternSteps.steps_of, Runs.{AreAdmitted, interactions}, Scripts.play_of};
 ghost use Rattle.p3_challenger.specs.SeparatorSeed.{separator_of};
+ghost use Rattle.p3_challenger.specs.TranscriptError.TheVariants as fault;
 ghost use Rattle.tealmuze_c.specs.{Forms.{counted_bytes, listed_bytes}, Readings.{FitsWord, IsListHeld}};
 ghost use Rattle.tealmuze_c.specs.Descriptions.{Describes, IsRead, AreRead};
+ghost use Rattle.tealmuze_c.specs.Errors.{IsDueTo, BeginsWithNone, FailsOnlyWithNone, both};
 
 use crate::cursor::Cursor;
 use crate::steps::parse_step;
@@ -27,9 +29,12 @@ impl<S: Called> Protocol<S> {
     /// Reads what stands after the suite: the version, the name, the chunks of the instance's label, and the steps.
     /// Labels are lent of the bytes.
     pub fn parse(alloc: Global, from: Cursor<'static>) -> Result<Protocol<S>, Unanswered>
-        ensures { IfOk result (λ protocol. Describes S.Field.residues.number S.Extension.coefficients
-            S.opaque_numbers (⟦<S as Meaning>⟧.rules S.Field.DIMENSION) from.entry.left.now
+        ensures ok { IfOk result (λ protocol. Describes S.Field.residues.number S.Extension.coefficients
+            S.opaque_numbers S.are_opaque (⟦<S as Meaning>⟧.rules S.Field.DIMENSION) from.entry.left.now
             protocol.separator protocol.steps.items) }
+        ensures err { FailsOnlyWithNone result (λ protocol. both protocol.separator protocol.steps.items)
+            (λ protocol. Describes S.Field.residues.number S.Extension.coefficients S.opaque_numbers S.are_opaque
+            (⟦<S as Meaning>⟧.rules S.Field.DIMENSION) from.entry.left.now protocol.0 protocol.1) }
     {
         let mut from = from;
         let version = from.byte()?;
@@ -51,6 +56,8 @@ fn parse_chunks(alloc: Global, from: &mut Cursor<'static>) -> Result<Vec<&'stati
         ≡ listed_bytes counted_bytes (map (λ chunk. chunk.now) chunks.items) ++ from.new.left.now) }
     ensures held { IfOk result (λ chunks. IsListHeld (λ chunk. FitsWord (length chunk))
         (map (λ chunk. chunk.now) chunks.items)) }
+    ensures err { IfErr result (IsDueTo (BeginsWithNone (IsListHeld (λ chunk. FitsWord (length chunk)))
+        (listed_bytes counted_bytes) from.old.left.now)) }
 {
     let count = from.number()?;
     let mut chunks = Vec::new(alloc);
@@ -65,8 +72,11 @@ fn parse_steps<S: Called>(
     alloc: Global,
     from: &mut Cursor<'static>,
 ) -> Result<Vec<Step<S>>, Unanswered>
-    ensures { IfOk result (λ steps. AreRead S.Field.residues.number S.Extension.coefficients
-        S.opaque_numbers from.old.left.now from.new.left.now steps.items) }
+    ensures ok { IfOk result (λ steps. AreRead S.Field.residues.number S.Extension.coefficients
+        S.opaque_numbers S.are_opaque from.old.left.now from.new.left.now steps.items) }
+    ensures err { FailsOnlyWithNone result (λ steps. steps.items) (λ steps. (left : List ℕ)
+        × AreRead S.Field.residues.number S.Extension.coefficients S.opaque_numbers S.are_opaque
+        from.old.left.now left steps) }
 {
     let count = from.number()?;
     let mut steps = Vec::new(alloc);
@@ -82,8 +92,11 @@ fn parse_next<S: Called>(
     from: &mut Cursor<'static>,
     position: usize,
 ) -> Result<Step<S>, Unanswered>
-    ensures { IfOk result (IsRead S.Field.residues.number S.Extension.coefficients S.opaque_numbers
+    ensures ok { IfOk result (IsRead S.Field.residues.number S.Extension.coefficients S.opaque_numbers S.are_opaque
         from.old.left.now from.new.left.now) }
+    ensures err { FailsOnlyWithNone result (λ s. s) (λ s. (left : List ℕ)
+        × IsRead S.Field.residues.number S.Extension.coefficients S.opaque_numbers S.are_opaque
+        from.old.left.now left s) }
 {
     let what = from.byte()?;
     let label = from.text()?;
@@ -100,18 +113,30 @@ fn played_pattern<S: Called>(
     alloc: Global,
     steps: &[Step<S>],
 ) -> Result<InteractionPattern, Unanswered>
-    ensures { let rules = ⟦<S as Meaning>⟧.rules S.Field.DIMENSION in IfOk result (λ pattern.
+    ensures ok { let rules = ⟦<S as Meaning>⟧.rules S.Field.DIMENSION in IfOk result (λ pattern.
+        (interactions (play_of rules) steps.now ≡ steps_of pattern) × AreAdmitted (play_of rules) steps.now) }
+    ensures err { let rules = ⟦<S as Meaning>⟧.rules S.Field.DIMENSION in
+        FailsOnlyWithNone result (λ pattern. pattern) (λ pattern.
         (interactions (play_of rules) steps.now ≡ steps_of pattern) × AreAdmitted (play_of rules) steps.now) }
 {
     let found = match pattern(alloc, steps) {
         Ok(found) => found,
-        Err(TranscriptError::OutOfMemory) => return Err(Unanswered::OutOfMemory),
-        Err(_) => return Err(Unanswered::NoPattern),
+        Err(error) => return Err(no_pattern(error)),
     };
     if !admitted(steps) {
         return Err(Unanswered::NotPlayed);
     }
     Ok(found)
+}
+
+// Why steps have no pattern.
+fn no_pattern(error: TranscriptError) -> Unanswered
+    ensures { IsDueTo (error ≡ fault.OutOfMemory → ⊥) result }
+{
+    match error {
+        TranscriptError::OutOfMemory => Unanswered::OutOfMemory,
+        _ => Unanswered::NoPattern,
+    }
 }
 
 // The separator of these.
@@ -122,12 +147,15 @@ fn separate<S: Called>(
     chunks: &[&'static [u8]],
     pattern: InteractionPattern,
 ) -> Result<SeparatorOf<S>, Unanswered>
-    ensures { IfOk result (λ separator. separator_of separator ≡ record {
+    ensures ok { IfOk result (λ separator. separator_of separator ≡ record {
       version = version;
       name = name.now;
       chunks = map (λ chunk. chunk.now) chunks.now;
       pattern = pattern;
     }) }
+    ensures err { FailsOnlyWithNone result (λ separator. separator) (λ separator.
+        ((separator_of separator).name ≡ name.now)
+        × ((separator_of separator).chunks ≡ map (λ chunk. chunk.now) chunks.now)) }
 {
     if name.is_empty() || name.len() > 62 {
         return Err(Unanswered::Name);

@@ -54,6 +54,8 @@ pub extern "C" fn tealmuze_verify(
     ensures { Answers (BySuite
         (⟦<HashSuite<Sha256Hasher> as Calls>⟧.tells_of_proof 1 proof.now carried.now)
         (⟦<Serializing32Suite as Calls>⟧.tells_of_proof 1 proof.now carried.now) description.now)
+        (BySuite (⟦<HashSuite<Sha256Hasher> as Calls>⟧.asks_of_proof 1)
+        (⟦<Serializing32Suite as Calls>⟧.asks_of_proof 1) description.now carried.now)
         (BySuite (⟦<HashSuite<Sha256Hasher> as Calls>⟧.wants_room 1 4 (length proof.now))
         (⟦<Serializing32Suite as Calls>⟧.wants_room 1 4 (length proof.now)) description.now)
         answer.old result answer.new }
@@ -77,6 +79,8 @@ pub extern "C" fn tealmuze_prove(
     ensures { Answers (BySuite
         (⟦<HashSuite<Sha256Hasher> as Calls>⟧.tells_of_values 1 values.now)
         (⟦<Serializing32Suite as Calls>⟧.tells_of_values 1 values.now) description.now)
+        (BySuite (⟦<HashSuite<Sha256Hasher> as Calls>⟧.asks_of_values 1)
+        (⟦<Serializing32Suite as Calls>⟧.asks_of_values 1) description.now values.now)
         (BySuite (⟦<HashSuite<Sha256Hasher> as Calls>⟧.wants_room 1 4 (length values.now))
         (⟦<Serializing32Suite as Calls>⟧.wants_room 1 4 (length values.now)) description.now)
         answer.old result answer.new }

@@ -1,11 +1,10 @@
 //! Values that are proved by one call.
-ghost use Rattle.std.specs.Prelude.{◌≡◌, ◌<◌, ◌⊎◌, ◌∷◌, ◌++◌, length, IfOk, IfErr, List};
+ghost use Rattle.std.specs.Prelude.{◌≡◌, ◌<◌, ◌∷◌, ◌++◌, length, IfOk, IfErr, List};
 ghost use Rattle.p3_challenger.specs.{Provings.AreHanded, Runs.AreAdmitted, Verdicts.script_of, Values.Value};
 ghost use Rattle.p3_challenger.specs.Scripts.{play_of, values_sent, challenges_of};
 ghost use Rattle.tealmuze_c.specs.Forms.{number_bytes, counted_bytes, listed_bytes, scalar_bytes};
 ghost use Rattle.tealmuze_c.specs.Forms.{value_bytes, challenge_bytes};
-ghost use Rattle.tealmuze_c.specs.{Told.TellsOfValues, Written.{ByAnswer, BySuite}};
-ghost use Rattle.tealmuze_c.specs.declared.unanswered.Unanswered.TheVariants.{OutOfMemory};
+ghost use Rattle.tealmuze_c.specs.{Errors.IsDueTo, Told.TellsOfValues, Written.{ByAnswer, BySuite}};
 
 use crate::answers::{put_challenges, put_counted, put_scalars};
 use crate::calls::Calls;
@@ -31,12 +30,14 @@ pub fn prove(
     values: &[u8],
     room: usize,
 ) -> Result<Answer, Unanswered>
-    ensures { IfOk result (ByAnswer (BySuite
+    ensures ok { IfOk result (ByAnswer (BySuite
         (⟦<HashSuite<Sha256Hasher> as Calls>⟧.tells_of_values 1 values.now)
         (⟦<Serializing32Suite as Calls>⟧.tells_of_values 1 values.now) description.now)
         (λ wanted. BySuite (⟦<HashSuite<Sha256Hasher> as Calls>⟧.wants_room 1 4 (length values.now))
         (⟦<Serializing32Suite as Calls>⟧.wants_room 1 4 (length values.now)) description.now wanted
         × room < wanted)) }
+    ensures err { IfErr result (IsDueTo (BySuite (⟦<HashSuite<Sha256Hasher> as Calls>⟧.asks_of_values 1)
+        (⟦<Serializing32Suite as Calls>⟧.asks_of_values 1) description.now values.now → ⊥)) }
 {
     let mut from = Cursor::new(description);
     match from.byte()? {
@@ -53,9 +54,11 @@ fn prove_in<S: Called>(
     values: &[u8],
     room: usize,
 ) -> Result<Answer, Unanswered>
-    ensures { IfOk result (ByAnswer (⟦<S as Calls>⟧.tells_of_values S.Field.DIMENSION values.now
+    ensures ok { IfOk result (ByAnswer (⟦<S as Calls>⟧.tells_of_values S.Field.DIMENSION values.now
         from.entry.left.now) (λ wanted. ⟦<S as Calls>⟧.wants_room S.Field.DIMENSION
         S.Extension.DIMENSION (length values.now) from.entry.left.now wanted × room < wanted)) }
+    ensures err { IfErr result
+        (IsDueTo (⟦<S as Calls>⟧.asks_of_values S.Field.DIMENSION from.entry.left.now values.now → ⊥)) }
 {
     let protocol = Protocol::<S>::parse(alloc, from)?;
     let wanted = wanted_room(protocol.steps.as_slice(), values.len());
@@ -85,8 +88,8 @@ fn answer<S: Called>(
         let script = script_of (S.Challenger.state challenger) protocol.now.separator protocol.now.steps.items in
         IfOk result (λ bytes. TellsOfValues rules S.Field.residues.number S.Extension.coefficients script
         (values_sent sent.now) bytes.items) }
-    ensures err { let rules = ⟦<S as Meaning>⟧.rules S.Field.DIMENSION in IfErr result (λ e. (e ≡ OutOfMemory)
-        ⊎ (AreHanded (play_of rules) protocol.now.steps.items (values_sent sent.now) → ⊥)) }
+    ensures err { let rules = ⟦<S as Meaning>⟧.rules S.Field.DIMENSION in
+        IfErr result (IsDueTo (AreHanded (play_of rules) protocol.now.steps.items (values_sent sent.now) → ⊥)) }
 {
     let steps = protocol.steps.as_slice();
     if !sent_matches(steps, sent) {

@@ -1,6 +1,7 @@
 //! The steps of a protocol, as a description has them: what a step is, its label, and some numbers.
-ghost use Rattle.std.specs.Prelude.{◌≡◌, IfOk, IfSome, ◌∷◌, []};
+ghost use Rattle.std.specs.Prelude.{◌≡◌, ◌<◌, ◌≤◌, ◌⊎◌, ℕ, IfOk, IfSome, IfNone, ◌∷◌, []};
 ghost use Rattle.tealmuze_c.specs.Descriptions.{kind_number, IsReadAs};
+ghost use Rattle.tealmuze_c.specs.{Errors.FailsOnlyWithNone, Readings.AreSoMany};
 
 use crate::suites::Called;
 use crate::unanswered::Unanswered;
@@ -18,8 +19,10 @@ pub fn parse_step<S: Called>(
     label: Label,
     numbers: &[u64],
 ) -> Result<Step<S>, Unanswered>
-    ensures { IfOk result (IsReadAs S.Field.residues.number S.Extension.coefficients S.opaque_numbers
+    ensures ok { IfOk result (IsReadAs S.Field.residues.number S.Extension.coefficients S.opaque_numbers S.are_opaque
         what label.now numbers.now) }
+    ensures err { FailsOnlyWithNone result (λ s. s) (IsReadAs S.Field.residues.number S.Extension.coefficients
+        S.opaque_numbers S.are_opaque what label.now numbers.now) }
 {
     let found = match numbers {
         [] if what < 4 => single(what, label),
@@ -36,8 +39,9 @@ pub fn parse_step<S: Called>(
 
 // One value that is sent or drawn.
 fn single<S: Called>(what: u8, label: Label) -> Option<Step<S>>
-    ensures { IfSome result (IsReadAs S.Field.residues.number S.Extension.coefficients S.opaque_numbers
+    ensures some { IfSome result (IsReadAs S.Field.residues.number S.Extension.coefficients S.opaque_numbers S.are_opaque
         what label.now []) }
+    ensures none { IfNone result (3 < what) }
 {
     match what {
         0 => Some(Step::Scalar { label }),
@@ -50,8 +54,9 @@ fn single<S: Called>(what: u8, label: Label) -> Option<Step<S>>
 
 // An end of a container.
 fn marker<S: Called>(what: u8, label: Label, kind: u64) -> Option<Step<S>>
-    ensures { IfSome result (IsReadAs S.Field.residues.number S.Extension.coefficients S.opaque_numbers
+    ensures some { IfSome result (IsReadAs S.Field.residues.number S.Extension.coefficients S.opaque_numbers S.are_opaque
         what label.now (kind ∷ [])) }
+    ensures none { IfNone result ((what < 4) ⊎ (5 < what) ⊎ (6 < kind)) }
 {
     let kind = parse_kind(kind)?;
     match what {
@@ -62,7 +67,8 @@ fn marker<S: Called>(what: u8, label: Label, kind: u64) -> Option<Step<S>>
 }
 
 fn parse_kind(number: u64) -> Option<Kind>
-    ensures { IfSome result (λ kind. kind_number kind ≡ number) }
+    ensures some { IfSome result (λ kind. kind_number kind ≡ number) }
+    ensures none { IfNone result (6 < number) }
 {
     match number {
         0 => Some(Kind::Protocol),
@@ -78,8 +84,9 @@ fn parse_kind(number: u64) -> Option<Kind>
 
 // A step that has one count: of bytes, of values, or of the bits of a proof of work.
 fn counted<S: Called>(what: u8, label: Label, count: usize) -> Option<Step<S>>
-    ensures { IfSome result (IsReadAs S.Field.residues.number S.Extension.coefficients S.opaque_numbers
+    ensures some { IfSome result (IsReadAs S.Field.residues.number S.Extension.coefficients S.opaque_numbers S.are_opaque
         what label.now (count ∷ [])) }
+    ensures none { IfNone result ((what < 6) ⊎ (16 < what)) }
 {
     match what {
         6 => Some(Step::Salt { label, len: count }),
@@ -99,8 +106,9 @@ fn counted<S: Called>(what: u8, label: Label, count: usize) -> Option<Step<S>>
 
 // Draws of numbers of bits.
 fn bits<S: Called>(what: u8, label: Label, width: usize, n: usize) -> Option<Step<S>>
-    ensures { IfSome result (IsReadAs S.Field.residues.number S.Extension.coefficients S.opaque_numbers
+    ensures some { IfSome result (IsReadAs S.Field.residues.number S.Extension.coefficients S.opaque_numbers S.are_opaque
         what label.now (width ∷ n ∷ [])) }
+    ensures none { IfNone result ((what < 17) ⊎ (18 < what)) }
 {
     match what {
         17 => Some(Step::ChallengeBits { label, width, n }),
@@ -116,8 +124,11 @@ fn known<S: Called>(
     label: Label,
     numbers: &[u64],
 ) -> Result<Step<S>, Unanswered>
-    ensures { IfOk result (IsReadAs S.Field.residues.number S.Extension.coefficients S.opaque_numbers
+    ensures ok { IfOk result (IsReadAs S.Field.residues.number S.Extension.coefficients S.opaque_numbers S.are_opaque
         what label.now numbers.now) }
+    ensures err { FailsOnlyWithNone result (λ s. s) (λ s. (18 < what) × (what < 24)
+        × IsReadAs S.Field.residues.number S.Extension.coefficients S.opaque_numbers S.are_opaque
+        what label.now numbers.now s) }
 {
     match what {
         19 | 21 => one_known(what, label, numbers).ok_or(Unanswered::Values),
@@ -139,8 +150,12 @@ fn known<S: Called>(
 
 // One value that both sides know.
 fn one_known<S: Called>(what: u8, label: Label, numbers: &[u64]) -> Option<Step<S>>
-    ensures { IfSome result (IsReadAs S.Field.residues.number S.Extension.coefficients S.opaque_numbers
+    ensures some { IfSome result (IsReadAs S.Field.residues.number S.Extension.coefficients S.opaque_numbers S.are_opaque
         what label.now numbers.now) }
+    ensures scalar { IfNone result (what ≡ 19 →
+        (number : ℕ) → number < S.Field.residues.order → numbers.now ≡ number ∷ [] → ⊥) }
+    ensures element { IfNone result (what ≡ 21 →
+        AreSoMany S.Extension.DIMENSION (λ number. number < S.Field.residues.order) numbers.now → ⊥) }
 {
     match (what, numbers) {
         (19, [number]) => Some(Step::PublicScalar {
@@ -163,8 +178,11 @@ fn capped<S: Called>(
     max: usize,
     numbers: &[u64],
 ) -> Result<Step<S>, Unanswered>
-    ensures { IfOk result (IsReadAs S.Field.residues.number S.Extension.coefficients S.opaque_numbers
+    ensures ok { IfOk result (IsReadAs S.Field.residues.number S.Extension.coefficients S.opaque_numbers S.are_opaque
         what label.now (max ∷ numbers.now)) }
+    ensures err { FailsOnlyWithNone result (λ s. s) (λ s. (23 < what)
+        × IsReadAs S.Field.residues.number S.Extension.coefficients S.opaque_numbers S.are_opaque
+        what label.now (max ∷ numbers.now) s) }
 {
     match what {
         24 => Ok(Step::PublicScalarsBounded {

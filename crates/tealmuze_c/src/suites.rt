@@ -1,8 +1,8 @@
 //! The suites that a description can name.
-ghost use Rattle.std.specs.Prelude.{◌≡◌, ◌≤◌, ℕ, List, [], map, IfOk};
+ghost use Rattle.std.specs.Prelude.{◌≡◌, ◌<◌, ◌≤◌, ℕ, List, [], map, IfOk, IfErr, OnOk};
 ghost use Rattle.std.proofs.Common.{lit≤};
 ghost use Rattle.p3_challenger.specs.{Digests.values_of, HashCalls.with_pending, HashValueLaws.values-injective};
-ghost use Rattle.tealmuze_c.specs.DigestLaws.{bytes-one};
+ghost use Rattle.tealmuze_c.specs.{DigestLaws.bytes-one, Errors.IsDueTo, Readings.AreSoMany};
 
 use crate::unanswered::Unanswered;
 use crate::words::digest;
@@ -28,13 +28,18 @@ pub trait Called: Suite {
     // The numbers that an opaque value is encoded as.
     ghost opaque_numbers: { Self.Opaque → List ℕ };
 
+    // What are the numbers of one.
+    ghost are_opaque: { List ℕ → Type 0 };
+
     /// A challenger that observed nothing yet.
     fn fresh(alloc: Global) -> Self::Challenger
         ensures { is_fresh (Self.Challenger.state result) };
 
     /// The opaque value of these numbers.
     fn opaque(alloc: Global, numbers: &[u64]) -> Result<Self::Opaque, Unanswered>
-        ensures { IfOk result (λ x. opaque_numbers x ≡ numbers.now) };
+        ensures ok { IfOk result (λ x. opaque_numbers x ≡ numbers.now) }
+        ensures are { OnOk result (are_opaque numbers.now) }
+        ensures err { IfErr result (IsDueTo (are_opaque numbers.now → ⊥)) };
 
     // No two opaque values are encoded alike.
     ghost one_opaque: { (x y : Self.Opaque) → opaque_numbers x ≡ opaque_numbers y → x ≡ y };
@@ -49,6 +54,8 @@ impl Called for HashSuite<Sha256Hasher> {
     ghost is_fresh = { λ s. s.sponge ≡ with_pending [] };
 
     ghost opaque_numbers = { λ digest. map (λ byte. byte) digest };
+
+    ghost are_opaque = { AreSoMany 32 (λ number. number < 256) };
 
     fn fresh(alloc: Global) -> HashChallenger<u8, Sha256Hasher, 32> {
         HashChallenger::new(Vec::new(alloc), Sha256Hasher)
@@ -69,6 +76,8 @@ impl Called for Serializing32Suite<Sha256Hasher, Sha256Hasher> {
     ghost is_fresh = { λ s. (s.inner.sponge ≡ with_pending []) × (s.draw_limit ≡ 1000) };
 
     ghost opaque_numbers = { λ digest. map (λ byte. byte) (values_of digest) };
+
+    ghost are_opaque = { AreSoMany 32 (λ number. number < 256) };
 
     fn fresh(
         alloc: Global,

@@ -1,6 +1,7 @@
 //! What a call writes into its caller's bytes.
-ghost use Rattle.std.specs.Prelude.{◌≡◌, ◌≤◌, ◌++◌, ◌∷◌, [], length, drop, IfOk, OnErr};
+ghost use Rattle.std.specs.Prelude.{◌≡◌, ◌≤◌, ◌++◌, ◌∷◌, [], length, drop, IfOk, IfErr};
 ghost use Rattle.tealmuze_c.specs.{Forms.IsWritten, Written.{IsUnasked, IsNoVerdict, IsTold, ByAnswer}};
+ghost use Rattle.tealmuze_c.specs.declared.unanswered.Unanswered.TheVariants.{OutOfMemory};
 
 use crate::answers::shortened;
 use crate::unanswered::Unanswered;
@@ -25,7 +26,7 @@ pub enum Answer {
 pub fn tell(alloc: Global, found: Result<Answer, Unanswered>, answer: &mut [u8]) -> usize
     ensures found { IfOk found (ByAnswer (λ bytes. IsWritten bytes answer.old result answer.new)
         (λ wanted. (result ≡ wanted) × (answer.new ≡ answer.old))) }
-    ensures none { OnErr found (IsTold IsNoVerdict answer.old result answer.new) }
+    ensures none { IfErr found (λ e. IsTold (IsNoVerdict (e ≡ OutOfMemory)) answer.old result answer.new) }
 {
     match found {
         Ok(Answer::Told(bytes)) => write(bytes.as_slice(), answer),
@@ -37,7 +38,7 @@ pub fn tell(alloc: Global, found: Result<Answer, Unanswered>, answer: &mut [u8])
 
 // Writes why nothing was asked that can be answered.
 fn tell_reason(alloc: Global, reason: Unanswered, answer: &mut [u8]) -> usize
-    ensures { IsTold IsNoVerdict answer.old result answer.new }
+    ensures { IsTold (IsNoVerdict ⊥) answer.old result answer.new }
 {
     match unasked(alloc, reason) {
         Ok(bytes) => write(bytes.as_slice(), answer),

@@ -1,6 +1,7 @@
 //! The values that a prover sends, as bytes.
-ghost use Rattle.std.specs.Prelude.{◌≡◌, ◌++◌, IfOk};
+ghost use Rattle.std.specs.Prelude.{◌≡◌, ℕ, List, ◌++◌, IfOk};
 ghost use Rattle.p3_challenger.specs.Scripts.{value_sent, values_sent};
+ghost use Rattle.tealmuze_c.specs.{Errors.FailsOnlyWithNone, Told.IsSendable, Readings.IsListHeld};
 ghost use Rattle.tealmuze_c.specs.Forms.{listed_bytes, value_bytes};
 
 use crate::cursor::Cursor;
@@ -16,9 +17,12 @@ use std::alloc::Global;
 /// The error is [`Unanswered::OutOfMemory`], or where they encode none [`Unanswered::Ends`], [`Unanswered::LeftOver`] or
 /// [`Unanswered::Values`].
 pub fn parse_values<S: Called>(alloc: Global, bytes: &[u8]) -> Result<Vec<Sent<S>>, Unanswered>
-    ensures { IfOk result (λ sent. bytes.now
+    ensures ok { IfOk result (λ sent. bytes.now
         ≡ listed_bytes (value_bytes S.Field.residues.number S.Extension.coefficients)
         (values_sent sent.items)) }
+    ensures held { IfOk result (λ sent. IsListHeld IsSendable (values_sent sent.items)) }
+    ensures err { FailsOnlyWithNone result (λ sent. values_sent sent.items) (λ values. IsListHeld IsSendable values
+        × (bytes.now ≡ listed_bytes (value_bytes S.Field.residues.number S.Extension.coefficients) values)) }
 {
     let mut from = Cursor::new(bytes);
     let count = from.number()?;
@@ -34,9 +38,13 @@ pub fn parse_values<S: Called>(alloc: Global, bytes: &[u8]) -> Result<Vec<Sent<S
 
 // The next value.
 fn parse_value<S: Called>(alloc: Global, from: &mut Cursor<'_>) -> Result<Sent<S>, Unanswered>
-    ensures { IfOk result (λ sent. from.old.left.now
+    ensures ok { IfOk result (λ sent. from.old.left.now
         ≡ value_bytes S.Field.residues.number S.Extension.coefficients (value_sent sent)
         ++ from.new.left.now) }
+    ensures held { IfOk result (λ sent. IsSendable (value_sent sent)) }
+    ensures err { FailsOnlyWithNone result value_sent (λ value. (left : List ℕ) × (IsSendable value
+        × (from.old.left.now
+        ≡ value_bytes S.Field.residues.number S.Extension.coefficients value ++ left))) }
 {
     match from.byte()? {
         0 => Ok(Sent::Bytes(Vec::from_slice(alloc, from.counted()?)?)),

@@ -1,10 +1,9 @@
 //! A proof that is verified by one call.
-ghost use Rattle.std.specs.Prelude.{◌≡◌, ◌<◌, ◌⊎◌, ◌∷◌, ◌++◌, length, map, IfOk, IfErr};
+ghost use Rattle.std.specs.Prelude.{◌≡◌, ◌<◌, ◌∷◌, ◌++◌, length, map, IfOk, IfErr};
 ghost use Rattle.p3_challenger.specs.{Runs.{AreAdmitted, carried_count}, Verdicts.script_of};
 ghost use Rattle.p3_challenger.specs.Scripts.{play_of, values_received, challenges_of};
 ghost use Rattle.tealmuze_c.specs.Forms.{listed_bytes, value_bytes, challenge_bytes};
-ghost use Rattle.tealmuze_c.specs.{Told.{TellsOfProof, CanBeCarried}, Written.{ByAnswer, BySuite}};
-ghost use Rattle.tealmuze_c.specs.declared.unanswered.Unanswered.TheVariants.{OutOfMemory};
+ghost use Rattle.tealmuze_c.specs.{Errors.IsDueTo, Told.{TellsOfProof, CanBeCarried}, Written.{ByAnswer, BySuite}};
 
 use crate::answers::{put_challenges, put_received};
 use crate::calls::Calls;
@@ -31,12 +30,14 @@ pub fn verify(
     carried: &[u64],
     room: usize,
 ) -> Result<Answer, Unanswered>
-    ensures { IfOk result (ByAnswer (BySuite
+    ensures ok { IfOk result (ByAnswer (BySuite
         (⟦<HashSuite<Sha256Hasher> as Calls>⟧.tells_of_proof 1 proof.now carried.now)
         (⟦<Serializing32Suite as Calls>⟧.tells_of_proof 1 proof.now carried.now) description.now)
         (λ wanted. BySuite (⟦<HashSuite<Sha256Hasher> as Calls>⟧.wants_room 1 4 (length proof.now))
         (⟦<Serializing32Suite as Calls>⟧.wants_room 1 4 (length proof.now)) description.now wanted
         × room < wanted)) }
+    ensures err { IfErr result (IsDueTo (BySuite (⟦<HashSuite<Sha256Hasher> as Calls>⟧.asks_of_proof 1)
+        (⟦<Serializing32Suite as Calls>⟧.asks_of_proof 1) description.now carried.now → ⊥)) }
 {
     let mut from = Cursor::new(description);
     match from.byte()? {
@@ -54,9 +55,11 @@ fn verify_in<S: Called>(
     carried: &[u64],
     room: usize,
 ) -> Result<Answer, Unanswered>
-    ensures { IfOk result (ByAnswer (⟦<S as Calls>⟧.tells_of_proof S.Field.DIMENSION proof.now
+    ensures ok { IfOk result (ByAnswer (⟦<S as Calls>⟧.tells_of_proof S.Field.DIMENSION proof.now
         carried.now from.entry.left.now) (λ wanted. ⟦<S as Calls>⟧.wants_room S.Field.DIMENSION
         S.Extension.DIMENSION (length proof.now) from.entry.left.now wanted × room < wanted)) }
+    ensures err { IfErr result
+        (IsDueTo (⟦<S as Calls>⟧.asks_of_proof S.Field.DIMENSION from.entry.left.now carried.now → ⊥)) }
 {
     let protocol = Protocol::<S>::parse(alloc, from)?;
     let wanted = wanted_room(protocol.steps.as_slice(), proof.len());
@@ -88,7 +91,7 @@ fn answer<S: Called>(
         proof.now carried.now bytes.items) }
     ensures err { let rules = ⟦<S as Meaning>⟧.rules S.Field.DIMENSION in
         let count = carried_count (play_of rules) protocol.now.steps.items in
-        IfErr result (λ e. (e ≡ OutOfMemory) ⊎ (CanBeCarried count S.Field.residues.order carried.now → ⊥)) }
+        IfErr result (IsDueTo (CanBeCarried count S.Field.residues.order carried.now → ⊥)) }
 {
     let steps = protocol.steps.as_slice();
     let witnesses = witnesses::<S>(alloc, steps, carried)?;
@@ -118,7 +121,7 @@ fn witnesses<S: Called>(
         (λ witnesses. carried_count (play_of rules) steps.now ≡ length witnesses.items) }
     ensures err { let rules = ⟦<S as Meaning>⟧.rules S.Field.DIMENSION in
         let count = carried_count (play_of rules) steps.now in
-        IfErr result (λ e. (e ≡ OutOfMemory) ⊎ (CanBeCarried count S.Field.residues.order carried.now → ⊥)) }
+        IfErr result (IsDueTo (CanBeCarried count S.Field.residues.order carried.now → ⊥)) }
 {
     if carried_len(steps) != carried.len() {
         return Err(Unanswered::Carried);

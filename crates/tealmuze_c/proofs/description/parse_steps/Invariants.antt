@@ -1,6 +1,6 @@
 use Rattle.std.proofs.Common.{◌≡◌, ◌++◌, length}
 use Rattle.std.specs.List.{All, flat_map}
-use Rattle.tealmuze_c.specs.Descriptions.{HasForm, HasHeldParts, step_bytes}
+use Rattle.tealmuze_c.specs.Descriptions.{HasForm, HasText, HasHeldParts, step_bytes}
 use Rattle.tealmuze_c.proofs.description.parse_steps.Given as goal
 
 -- so many are read
@@ -9,7 +9,8 @@ invariant-loop-position g l =
     let number = g.S.Field.PrimeCharacteristicRing.residues.number in
     let coefficients = g.S.Extension.BasedVectorSpace.coefficients in
     record {
-      formed : All (HasForm number coefficients g.S.Called.opaque_numbers) l.steps.items;
+      formed : All (HasForm number coefficients g.S.Called.opaque_numbers g.S.Called.are_opaque) l.steps.items;
+      texts : All (HasText number coefficients g.S.Called.opaque_numbers) l.steps.items;
       held : All (HasHeldParts number coefficients g.S.Called.opaque_numbers) l.steps.items;
       so_far : l.initial.from.left.now
           ≡ flat_map (step_bytes number coefficients g.S.Called.opaque_numbers) l.steps.items ++ l.from.left.now;

@@ -1,7 +1,7 @@
 use Rattle.std.proofs.Common.{◌≡◌, ◌++◌, length}
-use Rattle.std.specs.List.{flat_map}
+use Rattle.std.specs.List.{All, flat_map}
 use Rattle.p3_challenger.specs.Scripts.{values_sent}
-use Rattle.tealmuze_c.specs.Forms.{value_bytes}
+use Rattle.tealmuze_c.specs.{Forms.value_bytes, Told.IsSendable}
 use Rattle.tealmuze_c.proofs.values.parse_values.Given as goal
 
 -- so many are read
@@ -11,4 +11,5 @@ invariant-loop-read g l =
       so_far : l.initial.from.left.now ≡ flat_map (value_bytes g.S.Field.PrimeCharacteristicRing.residues.number
           g.S.Extension.BasedVectorSpace.coefficients) (values_sent l.sent.items) ++ l.from.left.now;
       count : length l.sent.items ≡ l.read;
+      held : All IsSendable (values_sent l.sent.items);
     }

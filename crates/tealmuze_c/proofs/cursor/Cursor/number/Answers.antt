@@ -2,8 +2,8 @@ use Rattle.std.proofs.Common.{rules, ◌≡◌, ◌++◌, take, drop, take-appen
 use Rattle.tealmuze_c.specs.Forms.{number_bytes}
 use Rattle.tealmuze_c.proofs.cursor.Cursor.number.Goals as goal
 
-pub returns-in-Some : goal.returns-in-Some
-returns-in-Some c =
+pub returns-in-Some-clause-read : goal.returns-in-Some-clause-read
+returns-in-Some-clause-read c =
     let all = c.args.self.now.left.now in
     let n = c.number_of.result in
     let head_is : c.in-Some.head.now ≡ take 8 all = search rules in
