@@ -47,15 +47,15 @@ separators-same s t version name chunks steps =
 
 -- ---- protocols
 
-module _ {F EF O : Type 0} (number : F → ℕ) (coefficients : EF → List F) (opaque_numbers : O → List ℕ)
+module _ {F EF O : Type 0} (number : F → ℕ) (coefficients : EF → List F) (opaque_numbers : O → List ℕ) (AreOpaque : List ℕ → Type 0)
     (dimension : ℕ) (some : 0 < dimension) (scalar_one : (x y : F) → number x ≡ number y → x ≡ y)
     (long : (x : EF) → length (coefficients x) ≡ dimension)
     (element_one : (x y : EF) → coefficients x ≡ coefficients y → x ≡ y)
     (opaque_one : (x y : O) → opaque_numbers x ≡ opaque_numbers y → x ≡ y) where
   pub described-plain : {Su U C K Ac D G It St Sy : Type 0} (rules : Rules St Sy It F EF O Ac) (bytes : List ℕ)
       (one other : DomainSeparator U D) (steps others : List (script.Step Su F EF U O C K Ac D G It St Sy)) →
-      Describes number coefficients opaque_numbers rules bytes one steps →
-      Describes number coefficients opaque_numbers rules bytes other others → map plain_of steps ≡ map plain_of others
+      Describes number coefficients opaque_numbers AreOpaque rules bytes one steps →
+      Describes number coefficients opaque_numbers AreOpaque rules bytes other others → map plain_of steps ≡ map plain_of others
   described-plain rules bytes one other steps others d e =
       let same = reading-one (reading_of number coefficients opaque_numbers one steps)
       (reading_of number coefficients opaque_numbers other others) d.held e.held (sym d.encoded ∙ e.encoded) in
@@ -64,12 +64,12 @@ module _ {F EF O : Type 0} (number : F → ℕ) (coefficients : EF → List F) (
 
   pub described-alike : {Su U C K Ac D G It St Sy : Type 0} (rules : Rules St Sy It F EF O Ac) (bytes : List ℕ)
       (one other : DomainSeparator U D) (steps others : List (script.Step Su F EF U O C K Ac D G It St Sy)) →
-      Describes number coefficients opaque_numbers rules bytes one steps →
-      Describes number coefficients opaque_numbers rules bytes other others → AreAlike rules one other steps others
+      Describes number coefficients opaque_numbers AreOpaque rules bytes one steps →
+      Describes number coefficients opaque_numbers AreOpaque rules bytes other others → AreAlike rules one other steps others
   described-alike rules bytes one other steps others d e =
       let same = reading-one (reading_of number coefficients opaque_numbers one steps)
       (reading_of number coefficients opaque_numbers other others) d.held e.held (sym d.encoded ∙ e.encoded) in
-      let steps_are = steps-same rules number coefficients opaque_numbers steps others d.formed e.formed
+      let steps_are = steps-same rules number coefficients opaque_numbers AreOpaque steps others d.formed e.formed
       (described-plain rules bytes one other steps others d e) in
       let played = interactions-same (play_of rules) (sides_of rules) steps_are in
       let separators = separators-same (separator_of one) (separator_of other) (ap (λ r. r.version) same)
@@ -144,9 +144,9 @@ module _ {Su F EF U O C K Ac D G It St Sy : Type 0} (rules : Rules St Sy It F EF
 
 -- where what the same bytes describe is alike
 module _ (Su U C K D G : Type 0) {F EF O Ac It St Sy : Type 0} (rules : Rules St Sy It F EF O Ac) (number : F → ℕ)
-    (coefficients : EF → List F) (opaque_numbers : O → List ℕ) (IsFresh : St → Type 0)
-    (alike : DescriptionsMeanOne Su U C K D G rules number coefficients opaque_numbers) where
-  pub verdicts-of_all : VerdictsAreSoOfAll Su U C K D G rules number coefficients opaque_numbers IsFresh
+    (coefficients : EF → List F) (opaque_numbers : O → List ℕ) (AreOpaque : List ℕ → Type 0) (IsFresh : St → Type 0)
+    (alike : DescriptionsMeanOne Su U C K D G rules number coefficients opaque_numbers AreOpaque) where
+  pub verdicts-of_all : VerdictsAreSoOfAll Su U C K D G rules number coefficients opaque_numbers AreOpaque IsFresh
   verdicts-of_all bytes proof carried told separator steps says describes = record {
     start = says.start;
     fresh = says.fresh;
@@ -155,7 +155,7 @@ module _ (Su U C K D G : Type 0) {F EF O Ac It St Sy : Type 0} (rules : Rules St
         says.tells;
   }
 
-  pub provings-of_all : ProvingsAreSoOfAll Su U C K D G rules number coefficients opaque_numbers IsFresh
+  pub provings-of_all : ProvingsAreSoOfAll Su U C K D G rules number coefficients opaque_numbers AreOpaque IsFresh
   provings-of_all bytes values told separator steps says describes = record {
     start = says.start;
     fresh = says.fresh;

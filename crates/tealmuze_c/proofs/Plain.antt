@@ -159,14 +159,14 @@ module _ {S Symbol I F EF O Ac : Type 0} (rules : Rules S Symbol I F EF O Ac) wh
       (knows_counted rules rules.extension kind.Message label ys n)
       ))))))))))))))))))))))))
 
-  play-plain : (number : F → ℕ) (coefficients : EF → List F) (opaque_numbers : O → List ℕ) {Su U C K D G : Type 0}
-      (s : script.Step Su F EF U O C K Ac D G I S Symbol) → HasForm number coefficients opaque_numbers s →
+  play-plain : (number : F → ℕ) (coefficients : EF → List F) (opaque_numbers : O → List ℕ) (AreOpaque : List ℕ → Type 0) {Su U C K D G : Type 0}
+      (s : script.Step Su F EF U O C K Ac D G I S Symbol) → HasForm number coefficients opaque_numbers AreOpaque s →
       play_of rules s ≡ play_of_plain (plain_of s)
-  play-plain number coefficients opaque_numbers (step.ChallengeExtensionsRejecting label n accept limit) f = absurd f
-  play-plain number coefficients opaque_numbers (step.ChallengeUniformBitsRejecting label width n accept limit) f = absurd f
-  play-plain number coefficients opaque_numbers (step.Begin label kind) f = ap (λ k. marks rules Begin label.now k) (kind_at-is kind)
-  play-plain number coefficients opaque_numbers (step.End label kind) f = ap (λ k. marks rules End label.now k) (kind_at-is kind)
-  play-plain number coefficients opaque_numbers _ f = refl
+  play-plain number coefficients opaque_numbers AreOpaque (step.ChallengeExtensionsRejecting label n accept limit) f = absurd f
+  play-plain number coefficients opaque_numbers AreOpaque (step.ChallengeUniformBitsRejecting label width n accept limit) f = absurd f
+  play-plain number coefficients opaque_numbers AreOpaque (step.Begin label kind) f = ap (λ k. marks rules Begin label.now k) (kind_at-is kind)
+  play-plain number coefficients opaque_numbers AreOpaque (step.End label kind) f = ap (λ k. marks rules End label.now k) (kind_at-is kind)
+  play-plain number coefficients opaque_numbers AreOpaque _ f = refl
 
 -- ---- the refusals of a step
 
@@ -195,16 +195,16 @@ module _ {S Symbol I F EF O Ac : Type 0} (rules : Rules S Symbol I F EF O Ac) wh
       (sides_alike (play_of_plain rules p))
       )))))))))))))
 
-  sides-plain : (number : F → ℕ) (coefficients : EF → List F) (opaque_numbers : O → List ℕ) {Su U C K D G : Type 0}
-      (s : script.Step Su F EF U O C K Ac D G I S Symbol) → HasForm number coefficients opaque_numbers s →
+  sides-plain : (number : F → ℕ) (coefficients : EF → List F) (opaque_numbers : O → List ℕ) (AreOpaque : List ℕ → Type 0) {Su U C K D G : Type 0}
+      (s : script.Step Su F EF U O C K Ac D G I S Symbol) → HasForm number coefficients opaque_numbers AreOpaque s →
       sides_of rules s ≡ sides_of_plain (plain_of s)
-  sides-plain number coefficients opaque_numbers (step.ChallengeExtensionsRejecting label n accept limit) f = absurd f
-  sides-plain number coefficients opaque_numbers (step.ChallengeUniformBitsRejecting label width n accept limit) f = absurd f
-  sides-plain number coefficients opaque_numbers (step.Begin label kind) f =
+  sides-plain number coefficients opaque_numbers AreOpaque (step.ChallengeExtensionsRejecting label n accept limit) f = absurd f
+  sides-plain number coefficients opaque_numbers AreOpaque (step.ChallengeUniformBitsRejecting label width n accept limit) f = absurd f
+  sides-plain number coefficients opaque_numbers AreOpaque (step.Begin label kind) f =
       ap (λ k. sides_alike (marks rules Begin label.now k)) (kind_at-is kind)
-  sides-plain number coefficients opaque_numbers (step.End label kind) f =
+  sides-plain number coefficients opaque_numbers AreOpaque (step.End label kind) f =
       ap (λ k. sides_alike (marks rules End label.now k)) (kind_at-is kind)
-  sides-plain number coefficients opaque_numbers _ f = refl
+  sides-plain number coefficients opaque_numbers AreOpaque _ f = refl
 
 -- ---- the parts of a step
 
@@ -315,9 +315,9 @@ module _ {F EF O : Type 0} (number : F → ℕ) (coefficients : EF → List F) (
 
 -- what has the same plain steps has the same plays and refusals, and the same room
 module _ {S Symbol I F EF O Ac : Type 0} (rules : Rules S Symbol I F EF O Ac) (number : F → ℕ)
-    (coefficients : EF → List F) (opaque_numbers : O → List ℕ) where
+    (coefficients : EF → List F) (opaque_numbers : O → List ℕ) (AreOpaque : List ℕ → Type 0) where
   pub steps-same : {Su U C K D G : Type 0} (ss ts : List (script.Step Su F EF U O C K Ac D G I S Symbol)) →
-      All (HasForm number coefficients opaque_numbers) ss → All (HasForm number coefficients opaque_numbers) ts →
+      All (HasForm number coefficients opaque_numbers AreOpaque) ss → All (HasForm number coefficients opaque_numbers AreOpaque) ts →
       map plain_of ss ≡ map plain_of ts → AreSame (play_of rules) (sides_of rules) ss ts
   steps-same [] [] f g e = none
   steps-same [] (t ∷ ts) f g e = absurd (cc)
@@ -325,14 +325,14 @@ module _ {S Symbol I F EF O Ac : Type 0} (rules : Rules S Symbol I F EF O Ac) (n
   steps-same (s ∷ ss) (t ∷ ts) f g e =
       let here : plain_of s ≡ plain_of t = cc in
       let there : map plain_of ss ≡ map plain_of ts = cc in
-      let f_here = All-head (HasForm number coefficients opaque_numbers) s ss f in
-      let g_here = All-head (HasForm number coefficients opaque_numbers) t ts g in
-      more (play-plain rules number coefficients opaque_numbers s f_here ∙ ap (play_of_plain rules) here
-      ∙ sym (play-plain rules number coefficients opaque_numbers t g_here))
-      (sides-plain rules number coefficients opaque_numbers s f_here ∙ ap (sides_of_plain rules) here
-      ∙ sym (sides-plain rules number coefficients opaque_numbers t g_here))
-      (steps-same ss ts (All-tail (HasForm number coefficients opaque_numbers) s ss f)
-      (All-tail (HasForm number coefficients opaque_numbers) t ts g) there)
+      let f_here = All-head (HasForm number coefficients opaque_numbers AreOpaque) s ss f in
+      let g_here = All-head (HasForm number coefficients opaque_numbers AreOpaque) t ts g in
+      more (play-plain rules number coefficients opaque_numbers AreOpaque s f_here ∙ ap (play_of_plain rules) here
+      ∙ sym (play-plain rules number coefficients opaque_numbers AreOpaque t g_here))
+      (sides-plain rules number coefficients opaque_numbers AreOpaque s f_here ∙ ap (sides_of_plain rules) here
+      ∙ sym (sides-plain rules number coefficients opaque_numbers AreOpaque t g_here))
+      (steps-same ss ts (All-tail (HasForm number coefficients opaque_numbers AreOpaque) s ss f)
+      (All-tail (HasForm number coefficients opaque_numbers AreOpaque) t ts g) there)
 
 module _ (dimension : ℕ) where
   abbrev drawn_room_of_plain : {F EF O : Type 0} → Plain F EF O → ℕ

@@ -22,13 +22,13 @@ use Rattle.tealmuze_c.proofs.Sizes.{drawn_scalars-size, drawn_extensions-size, d
 use Rattle.tealmuze_c.proofs.Sizes.{by_bytes, by_scalar, by_scalars, by_extension, by_witness}
 
 module _ {F EF O Ac I S Symbol : Type 0} (rules : Rules S Symbol I F EF O Ac) (number : F → ℕ)
-    (coefficients : EF → List F) (opaque_numbers : O → List ℕ) (dimension : ℕ)
+    (coefficients : EF → List F) (opaque_numbers : O → List ℕ) (AreOpaque : List ℕ → Type 0) (dimension : ℕ)
     (long : (x : EF) → length (coefficients x) ≡ dimension) where
   -- ---- what is drawn
 
   pub step-drawn : {Su U C K D G : Type 0} (x : script.Step Su F EF U O C K Ac D G I S Symbol) →
-      HasForm number coefficients opaque_numbers x → DrawsWithin number coefficients (play_of rules)
-      (HasForm number coefficients opaque_numbers) (drawn_room dimension) x
+      HasForm number coefficients opaque_numbers AreOpaque x → DrawsWithin number coefficients (play_of rules)
+      (HasForm number coefficients opaque_numbers AreOpaque) (drawn_room dimension) x
   step-drawn (step.ChallengeExtensionsRejecting label n accept limit) f v s = absurd f
   step-drawn (step.ChallengeUniformBitsRejecting label width n accept limit) f v s = absurd f
   step-drawn (step.ChallengeScalar label) f v s =
@@ -85,8 +85,8 @@ module _ {F EF O Ac I S Symbol : Type 0} (rules : Rules S Symbol I F EF O Ac) (n
   module _ (some : (x : F) → 1 ≤ length (rules.scalar.encoding.wire x))
       (coded : (x : EF) → rules.extension.encoding.wire x ≡ flat_map rules.scalar.encoding.wire (coefficients x)) where
     pub step-received : {Su U C K D G : Type 0} (x : script.Step Su F EF U O C K Ac D G I S Symbol) →
-        HasForm number coefficients opaque_numbers x → ReceivedWithin number coefficients (play_of rules)
-        (HasForm number coefficients opaque_numbers) (drawn_room dimension) x
+        HasForm number coefficients opaque_numbers AreOpaque x → ReceivedWithin number coefficients (play_of rules)
+        (HasForm number coefficients opaque_numbers AreOpaque) (drawn_room dimension) x
     step-received (step.Salt label len) f v fits = by_bytes (Received (sends_bytes rules kind.Salt label.now len)) (HasLength len)
         (λ bytes fit. omega (arith, bytes-alone number coefficients bytes)) v fits
     step-received (step.Bytes label len) f v fits = by_bytes (Received (sends_bytes rules kind.Message label.now len)) (HasLength len)
@@ -144,8 +144,8 @@ module _ {F EF O Ac I S Symbol : Type 0} (rules : Rules S Symbol I F EF O Ac) (n
     count-short max n = omega (arith, length-in_bytes (count_width max) n, count_width-most max)
 
     pub step-sent : {Su U C K D G : Type 0} (x : script.Step Su F EF U O C K Ac D G I S Symbol) →
-        HasForm number coefficients opaque_numbers x → SentWithin number coefficients (play_of rules)
-        (HasForm number coefficients opaque_numbers) (drawn_room dimension) x
+        HasForm number coefficients opaque_numbers AreOpaque x → SentWithin number coefficients (play_of rules)
+        (HasForm number coefficients opaque_numbers AreOpaque) (drawn_room dimension) x
     step-sent (step.Salt label len) f v fits = by_bytes (Sent (sends_bytes rules kind.Salt label.now len)) (HasLength len)
         (λ bytes fit. omega (arith, bytes-alone number coefficients bytes)) v fits
     step-sent (step.Bytes label len) f v fits = by_bytes (Sent (sends_bytes rules kind.Message label.now len)) (HasLength len)

@@ -41,12 +41,12 @@ module _ {Su F EF U O C K Ac D G It St Sy : Type 0} (rules : Rules St Sy It F EF
 
 -- whatever the same bytes describe is alike
 abbrev pub DescriptionsMeanOne : (Su U C K D G : Type 0) {F EF O Ac It St Sy : Type 0} → Rules St Sy It F EF O Ac →
-    (F → ℕ) → (EF → List F) → (O → List ℕ) → Type 0
-DescriptionsMeanOne Su U C K D G {F} {EF} {O} {Ac} {It} {St} {Sy} rules number coefficients opaque_numbers =
+    (F → ℕ) → (EF → List F) → (O → List ℕ) → (List ℕ → Type 0) → Type 0
+DescriptionsMeanOne Su U C K D G {F} {EF} {O} {Ac} {It} {St} {Sy} rules number coefficients opaque_numbers AreOpaque =
     (bytes : List ℕ) (one other : DomainSeparator U D)
     (steps others : List (script.Step Su F EF U O C K Ac D G It St Sy)) →
-    Describes number coefficients opaque_numbers rules bytes one steps →
-    Describes number coefficients opaque_numbers rules bytes other others → AreAlike rules one other steps others
+    Describes number coefficients opaque_numbers AreOpaque rules bytes one steps →
+    Describes number coefficients opaque_numbers AreOpaque rules bytes other others → AreAlike rules one other steps others
 
 -- ---- what is told
 
@@ -58,12 +58,12 @@ pub record IsToldOf {X F EF St U D : Type 0} (IsFresh : St → Type 0) (Tells : 
   pub tells : Tells (script_of start separator steps)
 
 module _ (Su U C K D G : Type 0) {F EF O Ac It St Sy : Type 0} (rules : Rules St Sy It F EF O Ac) (number : F → ℕ)
-    (coefficients : EF → List F) (opaque_numbers : O → List ℕ) (IsFresh : St → Type 0) where
+    (coefficients : EF → List F) (opaque_numbers : O → List ℕ) (AreOpaque : List ℕ → Type 0) (IsFresh : St → Type 0) where
   -- what is told of a protocol that the bytes describe is so of each that they describe
   abbrev pub IsSoOfAll : List ℕ → (Run (script.Step Su F EF U O C K Ac D G It St Sy) F EF St U D → Type 0) → Type 0
   IsSoOfAll bytes Tells = (separator : DomainSeparator U D) (steps : List (script.Step Su F EF U O C K Ac D G It St Sy)) →
-      TellsOfDescribed Su U C K D G rules number coefficients opaque_numbers IsFresh bytes Tells →
-      Describes number coefficients opaque_numbers rules bytes separator steps → IsToldOf IsFresh Tells separator steps
+      TellsOfDescribed Su U C K D G rules number coefficients opaque_numbers AreOpaque IsFresh bytes Tells →
+      Describes number coefficients opaque_numbers AreOpaque rules bytes separator steps → IsToldOf IsFresh Tells separator steps
 
   -- what is told of a proof, and of the values that some bytes encode
   abbrev pub VerdictsAreSoOfAll : Type 0

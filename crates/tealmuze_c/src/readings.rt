@@ -20,7 +20,7 @@ pub fn description_has_one_reading()
 pub fn described_protocols_are_alike<S: Called>()
     ensures { DescriptionsMeanOne S S.Unit S.Challenger S.Codec S.Digest S.Group
         (⟦<S as Meaning>⟧.rules S.Field.DIMENSION) S.Field.residues.number S.Extension.coefficients
-        S.opaque_numbers }
+        S.opaque_numbers S.are_opaque }
 {}
 
 /// What an answer tells of a protocol that a description has is so of each that it has: also of the one that its writer
@@ -28,10 +28,10 @@ pub fn described_protocols_are_alike<S: Called>()
 pub fn verdicts_are_of_what_is_described<S: Called>()
     ensures verify { VerdictsAreSoOfAll S S.Unit S.Challenger S.Codec S.Digest S.Group
         (⟦<S as Meaning>⟧.rules S.Field.DIMENSION) S.Field.residues.number S.Extension.coefficients
-        S.opaque_numbers S.is_fresh }
+        S.opaque_numbers S.are_opaque S.is_fresh }
     ensures prove { ProvingsAreSoOfAll S S.Unit S.Challenger S.Codec S.Digest S.Group
         (⟦<S as Meaning>⟧.rules S.Field.DIMENSION) S.Field.residues.number S.Extension.coefficients
-        S.opaque_numbers S.is_fresh }
+        S.opaque_numbers S.are_opaque S.is_fresh }
 {
     described_protocols_are_alike::<S>();
 }

@@ -8,6 +8,6 @@ returns g c =
     let space = g.S.Extension.BasedVectorSpace in
     let met = g.met.S.Extension.BasedVectorSpace in
     let is = g.met.S.Field.PrimeCharacteristicRing.are_residues in
-    described-alike ring.residues.number space.coefficients g.S.Called.opaque_numbers space.DIMENSION met.at_least_one
+    described-alike ring.residues.number space.coefficients g.S.Called.opaque_numbers g.S.Called.are_opaque space.DIMENSION met.at_least_one
     (λ x y same. sym (is.of_number x) ∙ ap ring.residues.of same ∙ is.of_number y)
     met.length_coefficients met.same_coefficients g.met.S.Called.one_opaque _

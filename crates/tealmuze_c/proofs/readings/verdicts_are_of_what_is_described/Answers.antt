@@ -3,8 +3,8 @@ use Rattle.tealmuze_c.proofs.readings.verdicts_are_of_what_is_described.Goals as
 
 pub returns-clause-verify : goal.returns-clause-verify
 returns-clause-verify g c =
-    verdicts-of_all _ _ _ _ _ _ _ _ _ _ g.S.Called.is_fresh c.described_protocols_are_alike.ensures
+    verdicts-of_all _ _ _ _ _ _ _ _ _ _ _ g.S.Called.is_fresh c.described_protocols_are_alike.ensures
 
 pub returns-clause-prove : goal.returns-clause-prove
 returns-clause-prove g c =
-    provings-of_all _ _ _ _ _ _ _ _ _ _ g.S.Called.is_fresh c.described_protocols_are_alike.ensures
+    provings-of_all _ _ _ _ _ _ _ _ _ _ _ g.S.Called.is_fresh c.described_protocols_are_alike.ensures
