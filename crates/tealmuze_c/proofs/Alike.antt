@@ -4,10 +4,10 @@ use Rattle.p3_challenger.specs.{DomainSeparator.DomainSeparator, SeparatorSeed.{
 use Rattle.p3_challenger.specs.{Rendering.hashed_text, Rules.Rules, Scripts.play_of, Seed.{identifier, label_of, seed_of_parts}}
 use Rattle.p3_challenger.specs.{PatternSteps.PatternSteps, ScriptRefusals.sides_of, Separators.Separator, Steps.Step}
 use Rattle.p3_patterns.specs.PatternStepLaws.{PatternSteps-same}
-use Rattle.p3_challenger.specs.{Values.Value, Verdicts.script_of}
+use Rattle.p3_challenger.specs.{Kind.Kind, Values.Value, Verdicts.script_of}
 use Rattle.tealmuze_c.specs.{Alike.{AreAlike, DescriptionsMeanOne, VerdictsAreSoOfAll, ProvingsAreSoOfAll}}
-use Rattle.tealmuze_c.specs.{Descriptions.{Describes, reading_of}, Told.{TellsOfProof, TellsOfValues}}
-use Rattle.tealmuze_c.proofs.{Codes.reading-one, Plain.{plain_of, plains-one, steps-same}}
+use Rattle.tealmuze_c.specs.{Descriptions.{Describes, kind_number, reading_of}, Told.{TellsOfProof, TellsOfValues}}
+use Rattle.tealmuze_c.proofs.{Codes.reading-one, Plain.{kind_at, plain_of, plains-one, steps-same}}
 use Rattle.tealmuze_c.proofs.SameRuns.{SameSeeds, interactions-same, accepts-same, none-same, proved-same, refused-same}
 use Rattle.tealmuze_c.proofs.SameRuns.{unproved-same, none_proved-same}
 use Rattle.p3_challenger.specs.Step as script
@@ -62,14 +62,15 @@ module _ {F EF O : Type 0} (number : F → ℕ) (coefficients : EF → List F) (
       plains-one number coefficients opaque_numbers dimension some scalar_one long element_one opaque_one steps others
       (ap (λ r. r.steps) same)
 
-  pub described-alike : {Su U C K Ac D G It St Sy : Type 0} (rules : Rules St Sy It F EF O Ac) (bytes : List ℕ)
+  pub described-alike : (kinds : (k : Kind) → k ≡ kind_at (kind_number k)) {Su U C K Ac D G It St Sy : Type 0}
+      (rules : Rules St Sy It F EF O Ac) (bytes : List ℕ)
       (one other : DomainSeparator U D) (steps others : List (script.Step Su F EF U O C K Ac D G It St Sy)) →
       Describes number coefficients opaque_numbers AreOpaque rules bytes one steps →
       Describes number coefficients opaque_numbers AreOpaque rules bytes other others → AreAlike rules one other steps others
-  described-alike rules bytes one other steps others d e =
+  described-alike kinds rules bytes one other steps others d e =
       let same = reading-one (reading_of number coefficients opaque_numbers one steps)
       (reading_of number coefficients opaque_numbers other others) d.held e.held (sym d.encoded ∙ e.encoded) in
-      let steps_are = steps-same rules number coefficients opaque_numbers AreOpaque steps others d.formed e.formed
+      let steps_are = steps-same rules kinds number coefficients opaque_numbers AreOpaque steps others d.formed e.formed
       (described-plain rules bytes one other steps others d e) in
       let played = interactions-same (play_of rules) (sides_of rules) steps_are in
       let separators = separators-same (separator_of one) (separator_of other) (ap (λ r. r.version) same)

@@ -70,7 +70,7 @@ plain_of (step.ChallengeUniformBitsRejecting label width n accept limit) = plain
 
 -- ---- the play of a step
 
-abbrev kind_at : ℕ → Kind
+abbrev pub kind_at : ℕ → Kind
 kind_at zero = kind.Protocol
 kind_at (suc zero) = kind.Public
 kind_at (suc (suc zero)) = kind.Message
@@ -78,15 +78,6 @@ kind_at (suc (suc (suc zero))) = kind.Hint
 kind_at (suc (suc (suc (suc zero)))) = kind.Challenge
 kind_at (suc (suc (suc (suc (suc zero))))) = kind.Pow
 kind_at _ = kind.Salt
-
-kind_at-is : (k : Kind) → k ≡ kind_at (kind_number k)
-kind_at-is kind.Protocol = refl
-kind_at-is kind.Public = refl
-kind_at-is kind.Message = refl
-kind_at-is kind.Hint = refl
-kind_at-is kind.Challenge = refl
-kind_at-is kind.Pow = refl
-kind_at-is kind.Salt = refl
 
 abbrev choose : {A : Type 1} → Bool → A → A → A
 choose true x y = x
@@ -159,14 +150,17 @@ module _ {S Symbol I F EF O Ac : Type 0} (rules : Rules S Symbol I F EF O Ac) wh
       (knows_counted rules rules.extension kind.Message label ys n)
       ))))))))))))))))))))))))
 
-  play-plain : (number : F → ℕ) (coefficients : EF → List F) (opaque_numbers : O → List ℕ) (AreOpaque : List ℕ → Type 0) {Su U C K D G : Type 0}
+  play-plain : (kinds : (k : Kind) → k ≡ kind_at (kind_number k)) (number : F → ℕ) (coefficients : EF → List F)
+      (opaque_numbers : O → List ℕ) (AreOpaque : List ℕ → Type 0) {Su U C K D G : Type 0}
       (s : script.Step Su F EF U O C K Ac D G I S Symbol) → HasForm number coefficients opaque_numbers AreOpaque s →
       play_of rules s ≡ play_of_plain (plain_of s)
-  play-plain number coefficients opaque_numbers AreOpaque (step.ChallengeExtensionsRejecting label n accept limit) f = absurd f
-  play-plain number coefficients opaque_numbers AreOpaque (step.ChallengeUniformBitsRejecting label width n accept limit) f = absurd f
-  play-plain number coefficients opaque_numbers AreOpaque (step.Begin label kind) f = ap (λ k. marks rules Begin label.now k) (kind_at-is kind)
-  play-plain number coefficients opaque_numbers AreOpaque (step.End label kind) f = ap (λ k. marks rules End label.now k) (kind_at-is kind)
-  play-plain number coefficients opaque_numbers AreOpaque _ f = refl
+  play-plain kinds number coefficients opaque_numbers AreOpaque (step.ChallengeExtensionsRejecting label n accept limit) f = absurd f
+  play-plain kinds number coefficients opaque_numbers AreOpaque (step.ChallengeUniformBitsRejecting label width n accept limit) f = absurd f
+  play-plain kinds number coefficients opaque_numbers AreOpaque (step.Begin label kind) f =
+      ap (λ k. marks rules Begin label.now k) (kinds kind)
+  play-plain kinds number coefficients opaque_numbers AreOpaque (step.End label kind) f =
+      ap (λ k. marks rules End label.now k) (kinds kind)
+  play-plain kinds number coefficients opaque_numbers AreOpaque _ f = refl
 
 -- ---- the refusals of a step
 
@@ -195,16 +189,17 @@ module _ {S Symbol I F EF O Ac : Type 0} (rules : Rules S Symbol I F EF O Ac) wh
       (sides_alike (play_of_plain rules p))
       )))))))))))))
 
-  sides-plain : (number : F → ℕ) (coefficients : EF → List F) (opaque_numbers : O → List ℕ) (AreOpaque : List ℕ → Type 0) {Su U C K D G : Type 0}
+  sides-plain : (kinds : (k : Kind) → k ≡ kind_at (kind_number k)) (number : F → ℕ) (coefficients : EF → List F)
+      (opaque_numbers : O → List ℕ) (AreOpaque : List ℕ → Type 0) {Su U C K D G : Type 0}
       (s : script.Step Su F EF U O C K Ac D G I S Symbol) → HasForm number coefficients opaque_numbers AreOpaque s →
       sides_of rules s ≡ sides_of_plain (plain_of s)
-  sides-plain number coefficients opaque_numbers AreOpaque (step.ChallengeExtensionsRejecting label n accept limit) f = absurd f
-  sides-plain number coefficients opaque_numbers AreOpaque (step.ChallengeUniformBitsRejecting label width n accept limit) f = absurd f
-  sides-plain number coefficients opaque_numbers AreOpaque (step.Begin label kind) f =
-      ap (λ k. sides_alike (marks rules Begin label.now k)) (kind_at-is kind)
-  sides-plain number coefficients opaque_numbers AreOpaque (step.End label kind) f =
-      ap (λ k. sides_alike (marks rules End label.now k)) (kind_at-is kind)
-  sides-plain number coefficients opaque_numbers AreOpaque _ f = refl
+  sides-plain kinds number coefficients opaque_numbers AreOpaque (step.ChallengeExtensionsRejecting label n accept limit) f = absurd f
+  sides-plain kinds number coefficients opaque_numbers AreOpaque (step.ChallengeUniformBitsRejecting label width n accept limit) f = absurd f
+  sides-plain kinds number coefficients opaque_numbers AreOpaque (step.Begin label kind) f =
+      ap (λ k. sides_alike (marks rules Begin label.now k)) (kinds kind)
+  sides-plain kinds number coefficients opaque_numbers AreOpaque (step.End label kind) f =
+      ap (λ k. sides_alike (marks rules End label.now k)) (kinds kind)
+  sides-plain kinds number coefficients opaque_numbers AreOpaque _ f = refl
 
 -- ---- the parts of a step
 
@@ -314,8 +309,9 @@ module _ {F EF O : Type 0} (number : F → ℕ) (coefficients : EF → List F) (
         ap (λ p. p ∷ map plain_of ss) one ∙ ap (λ ps. plain_of t ∷ ps) (plains-one ss ts there)
 
 -- what has the same plain steps has the same plays and refusals, and the same room
-module _ {S Symbol I F EF O Ac : Type 0} (rules : Rules S Symbol I F EF O Ac) (number : F → ℕ)
-    (coefficients : EF → List F) (opaque_numbers : O → List ℕ) (AreOpaque : List ℕ → Type 0) where
+module _ {S Symbol I F EF O Ac : Type 0} (rules : Rules S Symbol I F EF O Ac)
+    (kinds : (k : Kind) → k ≡ kind_at (kind_number k)) (number : F → ℕ) (coefficients : EF → List F)
+    (opaque_numbers : O → List ℕ) (AreOpaque : List ℕ → Type 0) where
   pub steps-same : {Su U C K D G : Type 0} (ss ts : List (script.Step Su F EF U O C K Ac D G I S Symbol)) →
       All (HasForm number coefficients opaque_numbers AreOpaque) ss → All (HasForm number coefficients opaque_numbers AreOpaque) ts →
       map plain_of ss ≡ map plain_of ts → AreSame (play_of rules) (sides_of rules) ss ts
@@ -327,10 +323,10 @@ module _ {S Symbol I F EF O Ac : Type 0} (rules : Rules S Symbol I F EF O Ac) (n
       let there : map plain_of ss ≡ map plain_of ts = cc in
       let f_here = All-head (HasForm number coefficients opaque_numbers AreOpaque) s ss f in
       let g_here = All-head (HasForm number coefficients opaque_numbers AreOpaque) t ts g in
-      more (play-plain rules number coefficients opaque_numbers AreOpaque s f_here ∙ ap (play_of_plain rules) here
-      ∙ sym (play-plain rules number coefficients opaque_numbers AreOpaque t g_here))
-      (sides-plain rules number coefficients opaque_numbers AreOpaque s f_here ∙ ap (sides_of_plain rules) here
-      ∙ sym (sides-plain rules number coefficients opaque_numbers AreOpaque t g_here))
+      more (play-plain rules kinds number coefficients opaque_numbers AreOpaque s f_here ∙ ap (play_of_plain rules) here
+      ∙ sym (play-plain rules kinds number coefficients opaque_numbers AreOpaque t g_here))
+      (sides-plain rules kinds number coefficients opaque_numbers AreOpaque s f_here ∙ ap (sides_of_plain rules) here
+      ∙ sym (sides-plain rules kinds number coefficients opaque_numbers AreOpaque t g_here))
       (steps-same ss ts (All-tail (HasForm number coefficients opaque_numbers AreOpaque) s ss f)
       (All-tail (HasForm number coefficients opaque_numbers AreOpaque) t ts g) there)
 
