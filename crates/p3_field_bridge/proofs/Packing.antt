@@ -1,6 +1,6 @@
 -- Elements packed into one, the last of them first.
-use Rattle.std.proofs.Common.{◌≡◌, ℕ, suc, ◌<◌, ◌≤◌, ◌+◌, ◌-◌, ◌*◌, ◌%◌, ◌^◌, List, length, map, drop, get_or}
-use Rattle.std.proofs.{Common.{sym, ap, ap₂, ◌∙◌, arith}, Math.Pow.pow-lt, Math.Seq.drop-cons}
+use Rattle.std.proofs.Common.{◌≡◌, ℕ, suc, ◌<◌, ◌≤◌, ◌+◌, ◌-◌, ◌*◌, ◌%◌, ◌^◌, List, [], length, map, drop, get_or}
+use Rattle.std.proofs.{Common.{sym, ap, ap₂, ◌∙◌, arith}, Math.Pow.pow-lt, Math.Seq.drop-cons, Math.ListN.drop_of_length-le}
 use Rattle.std.proofs.Math.Nat.{add-mod-mod, mod-add-mod, mod-eq_of_lt, mul_comm, pow-suc}
 use Rattle.std.proofs.lemmas.Nat.{mul-mod_first, mul-mod_second}
 use Rattle.p3_field_core.specs.{Residues.{Residues, IsResidues, sum_of, product_of}, ResidueLaws.of-same}
@@ -75,3 +75,16 @@ number-more number nought base i values inside =
     ∙ number_in-cons base digit (map number (drop (suc place) values))
     ∙ ap (λ l. base * number_in base l + digit) rest in
     sym split
+
+-- the number of the last value alone
+pub number-last : {F : Type 0} (number : F → ℕ) (nought : F) (base : ℕ) (values : List F) → 0 < length values
+    → number (get_or values (length values - 1) nought)
+    ≡ number_in base (map number (drop (length values - 1) values))
+number-last number nought base values some =
+    let none : drop (length values - 0) values ≡ [] = drop_of_length-le values (omega arith) in
+    let above : base * number_in base (map number (drop (length values - 0) values)) ≡ 0 =
+    ap (λ l. base * number_in base (map number l)) none ∙ omega arith in
+    let place : length values - 1 - 0 ≡ length values - 1 = omega arith in
+    let last : number (get_or values (length values - 1 - 0) nought) ≡ number (get_or values (length values - 1) nought) =
+    ap (λ k. number (get_or values k nought)) place in
+    omega (arith, above, last, number-more number nought base 0 values some)

@@ -59,10 +59,13 @@ pub trait FieldBridge<F: PrimeField64, PF: PrimeField64> {
     fn pack(values: &[F]) -> PF
         ensures { result ≡ packed F.residues PF.residues RADIX_BITS values.now }
     {
+        let Some(highest) = values.last() else {
+            return PF::ZERO;
+        };
         let half = PF::from_u64(1 << (Self::RADIX_BITS - 1));
         let radix = half + half;
-        let mut packed = PF::ZERO;
-        for i in 0..values.len() {
+        let mut packed = PF::from_u64(highest.as_canonical_u64());
+        for i in 1..values.len() {
             let place = values.len() - 1 - i;
             let value = values[place];
             packed = packed * radix + PF::from_u64(value.as_canonical_u64());

@@ -271,13 +271,11 @@ impl<T: Copy, H: CryptographicHasher<T, [T; OUT_LEN]>, const OUT_LEN: usize> Can
     ghost slice_leaves = { values-front };
 
     fn observe(&mut self, value: T) -> Result<(), ChallengerError> {
-        copy_digest(&self.digest, &mut self.input_buffer)?;
-        self.input_buffer.push(value)?;
-        // Most values come while no output is left, and then there is no digest to clear.
+        // Most values come while no output is left: then there is no digest.
         if self.digest.is_some() {
-            self.digest = None;
-            self.outputs_left = 0;
+            return self.absorb(&[value]);
         }
+        self.input_buffer.push(value)?;
         Ok(())
     }
 

@@ -1,6 +1,7 @@
-use Rattle.std.proofs.Common.{◌-◌, ◌^◌, length, map, drop, get_or, ap, ◌∙◌, arith}
+use Rattle.std.proofs.Common.{◌-◌, ◌^◌, length, map, drop, get_or, ap, sym, ◌∙◌, arith}
+use Rattle.std.proofs.lemmas.Bool.{ltb-true}
 use Rattle.p3_field_bridge.specs.{Digits.number_in, BridgeLaws.{some_bits, at_most_64}}
-use Rattle.p3_field_bridge.proofs.Packing.{radix-is, packed-more, number-more, shifted_bit}
+use Rattle.p3_field_bridge.proofs.Packing.{radix-is, packed-more, number-last, number-more, shifted_bit}
 use Rattle.p3_field_bridge.proofs.bridge.FieldBridge.pack.Goals as goal
 
 pub overflow_shl-RADIX_BITS : goal.overflow_shl-RADIX_BITS
@@ -25,7 +26,7 @@ loop-i-preserved g c =
     (shifted_bit c.RADIX_BITS.result bits c.RADIX_BITS.ensures some most)
     (ring.add_law _ _ _ c.add-radix.ensures) in
     let value =
-    c.from_u64.ensures ∙ ap outer.of (c.as_canonical_u64.ensures ∙ ap inner.number c.index-values-place.is) in
+    c.from_u64.ensures ∙ ap outer.of (c.as_canonical_u64-in-loop-i.ensures ∙ ap inner.number c.index-values-place.is) in
     let values = c.args.values.now in
     let i = c.loop-i.i in
     let so_far = number_in (2 ^ bits) (map inner.number (drop (length values - i) values)) in
@@ -35,3 +36,16 @@ loop-i-preserved g c =
     (ring.add_law _ _ _ c.add-packed.ensures)
     ∙ ap outer.of
     (number-more inner.number c.index-values-place.result (2 ^ bits) i values (omega (arith, c.loop-i-test.true)))
+
+-- the last value is packed
+pub loop-i-init : goal.loop-i-init
+loop-i-init g c =
+    let outer = g.PF.PrimeCharacteristicRing.residues in
+    let number = g.F.PrimeCharacteristicRing.residues.number in
+    let base = 2 ^ g.Self.FieldBridge.RADIX_BITS in
+    let values = c.args.values.now in
+    let highest = c.in-Some.highest.now in
+    c.from_u64-packed.ensures
+    ∙ ap outer.of
+    (c.as_canonical_u64.ensures ∙ ap number c.in-Some.ensures.item.1
+    ∙ number-last number highest base values (ltb-true 0 (length values) (sym c.in-Some.ensures.item.0)))
