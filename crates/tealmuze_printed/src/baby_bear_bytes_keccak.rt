@@ -1,0 +1,102 @@
+//! The protocol `sent`, as `tealmuze rust` prints it.
+
+use p3_challenger::HashChallenger;
+use p3_challenger::fs::script::{AcceptAll, Plain, Step, Suite};
+use p3_challenger::fs::{BytesToFieldCodec, DomainSeparator, Kind, TranscriptError, script};
+use p3_field::{BabyBear, Coeffs};
+use p3_keccak::Keccak256Hasher;
+use std::alloc::{AllocError, Global};
+
+/// The types that play the protocol.
+#[derive(Clone, Copy, Debug)]
+pub struct Protocol;
+
+impl Suite for Protocol {
+    ghost use Rattle.std.specs.{Prelude.{◌≡◌, length}, List.each_same};
+
+    type Field = BabyBear;
+
+    type Extension = Coeffs<BabyBear, 4>;
+
+    type Unit = u8;
+
+    type Opaque = [u8; 32];
+
+    type Challenger = Challenger;
+
+    type Codec = BytesToFieldCodec<BabyBear>;
+
+    type Accept = AcceptAll;
+
+    type Digest = Keccak256Hasher;
+
+    type Group = Plain;
+
+    ghost is_own = { λ values. length values ≡ 32 };
+
+    ghost alphabet = { tt };
+
+    ghost clones = { λ values copy told. each_same values copy told.whole };
+}
+
+/// The challenger.
+pub type Challenger = HashChallenger<u8, Keccak256Hasher, 32>;
+
+/// What binds a transcript to the protocol.
+pub type Separator = DomainSeparator<u8, Keccak256Hasher>;
+
+/// What both sides begin with: a challenger that observed nothing.
+pub fn challenger(alloc: Global) -> Challenger {
+    HashChallenger::new(Vec::new(alloc), Keccak256Hasher)
+}
+
+/// The steps, in order.
+pub fn steps(alloc: Global) -> Result<Vec<Step<Protocol>>, AllocError> {
+    let mut steps = Vec::new(alloc);
+    steps.push(Step::Begin {
+        label: "sent",
+        kind: Kind::Protocol,
+    })?;
+    steps.push(Step::Salt {
+        label: "salt",
+        len: 8,
+    })?;
+    steps.push(Step::Bytes {
+        label: "root",
+        len: 32,
+    })?;
+    steps.push(Step::Hint {
+        label: "opening",
+        len: 4,
+    })?;
+    steps.push(Step::BytesBounded {
+        label: "note",
+        max: 300,
+    })?;
+    steps.push(Step::HintBounded {
+        label: "openings",
+        max: 16,
+    })?;
+    steps.push(Step::Scalar { label: "claim" })?;
+    steps.push(Step::Scalars {
+        label: "values",
+        n: 3,
+    })?;
+    steps.push(Step::ScalarsBounded {
+        label: "counted",
+        max: 4,
+    })?;
+    steps.push(Step::Extension { label: "sum" })?;
+    steps.push(Step::ChallengeScalar { label: "alpha" })?;
+    steps.push(Step::End {
+        label: "sent",
+        kind: Kind::Protocol,
+    })?;
+    Ok(steps)
+}
+
+/// The version and the name of the protocol, the pattern of its steps, and the instance.
+pub fn separator(alloc: Global, steps: &[Step<Protocol>]) -> Result<Separator, TranscriptError> {
+    let pattern = script::pattern::<Protocol>(alloc, steps)?;
+    Separator::new(alloc, 255, "sent".as_bytes(), pattern)
+}
