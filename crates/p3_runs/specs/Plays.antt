@@ -89,7 +89,7 @@ known_within interaction len max effect absorbed =
 
 -- ---- what is sent
 
--- of a value that was found, or else
+-- a function of what was found, or another value where nothing was
 abbrev pub when_some : {A R : Type 0} → R → (A → R) → Option A → R
 when_some other f None = other
 when_some other f (Some x) = f x
