@@ -52,47 +52,47 @@ pub fn challenger(alloc: Global) -> Challenger {
 
 /// The steps, in order.
 pub fn steps(alloc: Global) -> Result<Vec<Step<Protocol>>, AllocError> {
-    let mut steps = Vec::new(alloc);
-    steps.push(Step::Begin {
-        label: "sent",
-        kind: Kind::Protocol,
-    })?;
-    steps.push(Step::Salt {
-        label: "salt",
-        len: 8,
-    })?;
-    steps.push(Step::Bytes {
-        label: "root",
-        len: 32,
-    })?;
-    steps.push(Step::Hint {
-        label: "opening",
-        len: 4,
-    })?;
-    steps.push(Step::BytesBounded {
-        label: "note",
-        max: 300,
-    })?;
-    steps.push(Step::HintBounded {
-        label: "openings",
-        max: 16,
-    })?;
-    steps.push(Step::Scalar { label: "claim" })?;
-    steps.push(Step::Scalars {
-        label: "values",
-        n: 3,
-    })?;
-    steps.push(Step::ScalarsBounded {
-        label: "counted",
-        max: 4,
-    })?;
-    steps.push(Step::Extension { label: "sum" })?;
-    steps.push(Step::ChallengeScalar { label: "alpha" })?;
-    steps.push(Step::End {
-        label: "sent",
-        kind: Kind::Protocol,
-    })?;
-    Ok(steps)
+    vec![in alloc;
+        Step::Begin {
+            label: "sent",
+            kind: Kind::Protocol,
+        },
+        Step::Salt {
+            label: "salt",
+            len: 8,
+        },
+        Step::Bytes {
+            label: "root",
+            len: 32,
+        },
+        Step::Hint {
+            label: "opening",
+            len: 4,
+        },
+        Step::BytesBounded {
+            label: "note",
+            max: 300,
+        },
+        Step::HintBounded {
+            label: "openings",
+            max: 16,
+        },
+        Step::Scalar { label: "claim" },
+        Step::Scalars {
+            label: "values",
+            n: 3,
+        },
+        Step::ScalarsBounded {
+            label: "counted",
+            max: 4,
+        },
+        Step::Extension { label: "sum" },
+        Step::ChallengeScalar { label: "alpha" },
+        Step::End {
+            label: "sent",
+            kind: Kind::Protocol,
+        },
+    ]
 }
 
 /// The version and the name of the protocol, the pattern of its steps, and the instance.

@@ -57,49 +57,49 @@ pub fn challenger(alloc: Global) -> Challenger {
 
 /// The steps, in order.
 pub fn steps(alloc: Global) -> Result<Vec<Step<Protocol>>, AllocError> {
-    let mut steps = Vec::new(alloc);
-    steps.push(Step::Begin {
-        label: "work",
-        kind: Kind::Protocol,
-    })?;
-    steps.push(Step::Opaque {
-        label: "digest",
-        value: Hash::from([
-            0, 1, 2, 3, 4, 5, 6, 7, 8, 9, 10, 11, 12, 13, 14, 15, 16, 17, 18, 19, 20, 21, 22, 23,
-            24, 25, 26, 27, 28, 29, 30, 31,
-        ]),
-    })?;
-    steps.push(Step::Begin {
-        label: "grinding",
-        kind: Kind::Pow,
-    })?;
-    steps.push(Step::Pow {
-        label: "in the proof",
-        bits: 8,
-    })?;
-    steps.push(Step::ObservePow {
-        label: "beside it",
-        bits: 4,
-    })?;
-    steps.push(Step::End {
-        label: "grinding",
-        kind: Kind::Pow,
-    })?;
-    steps.push(Step::ChallengeBits {
-        label: "indices",
-        width: 20,
-        n: 2,
-    })?;
-    steps.push(Step::ChallengeUniformBits {
-        label: "uniform",
-        width: 4,
-        n: 3,
-    })?;
-    steps.push(Step::End {
-        label: "work",
-        kind: Kind::Protocol,
-    })?;
-    Ok(steps)
+    vec![in alloc;
+        Step::Begin {
+            label: "work",
+            kind: Kind::Protocol,
+        },
+        Step::Opaque {
+            label: "digest",
+            value: Hash::from([
+                0, 1, 2, 3, 4, 5, 6, 7, 8, 9, 10, 11, 12, 13, 14, 15, 16, 17, 18, 19, 20, 21, 22,
+                23, 24, 25, 26, 27, 28, 29, 30, 31,
+            ]),
+        },
+        Step::Begin {
+            label: "grinding",
+            kind: Kind::Pow,
+        },
+        Step::Pow {
+            label: "in the proof",
+            bits: 8,
+        },
+        Step::ObservePow {
+            label: "beside it",
+            bits: 4,
+        },
+        Step::End {
+            label: "grinding",
+            kind: Kind::Pow,
+        },
+        Step::ChallengeBits {
+            label: "indices",
+            width: 20,
+            n: 2,
+        },
+        Step::ChallengeUniformBits {
+            label: "uniform",
+            width: 4,
+            n: 3,
+        },
+        Step::End {
+            label: "work",
+            kind: Kind::Protocol,
+        },
+    ]
 }
 
 /// The version and the name of the protocol, the pattern of its steps, and the instance.

@@ -56,20 +56,20 @@ pub fn challenger(alloc: Global) -> Challenger {
 
 /// The steps, in order.
 pub fn steps(alloc: Global) -> Result<Vec<Step<Protocol>>, AllocError> {
-    let mut steps = Vec::new(alloc);
-    steps.push(Step::PublicScalars {
-        label: "none",
-        values: Vec::new(alloc),
-    })?;
-    steps.push(Step::Opaque {
-        label: "éẟ \"label\"",
-        value: Hash::from([
-            255, 255, 255, 255, 255, 255, 255, 255, 255, 255, 255, 255, 255, 255, 255, 255, 255,
-            255, 255, 255, 255, 255, 255, 255, 255, 255, 255, 255, 255, 255, 255, 255,
-        ]),
-    })?;
-    steps.push(Step::ChallengeExtension { label: "beta" })?;
-    Ok(steps)
+    vec![in alloc;
+        Step::PublicScalars {
+            label: "none",
+            values: Vec::new(alloc),
+        },
+        Step::Opaque {
+            label: "éẟ \"label\"",
+            value: Hash::from([
+                255, 255, 255, 255, 255, 255, 255, 255, 255, 255, 255, 255, 255, 255, 255, 255,
+                255, 255, 255, 255, 255, 255, 255, 255, 255, 255, 255, 255, 255, 255, 255, 255,
+            ]),
+        },
+        Step::ChallengeExtension { label: "beta" },
+    ]
 }
 
 /// The version and the name of the protocol, the pattern of its steps, and the instance.

@@ -56,34 +56,34 @@ pub fn challenger() -> Result<Challenger, MultiField32ChallengerError> {
 
 /// The steps, in order.
 pub fn steps(alloc: Global) -> Result<Vec<Step<Protocol>>, AllocError> {
-    let mut steps = Vec::new(alloc);
-    steps.push(Step::Opaque {
-        label: "digest",
-        value: Hash::from([
-            Goldilocks::from_u64(1),
-            Goldilocks::from_u64(2),
-            Goldilocks::from_u64(3),
-            Goldilocks::from_u64(18446744069414584320),
-        ]),
-    })?;
-    steps.push(Step::PublicScalars {
-        label: "scalars",
-        values: vec![in alloc;
-            BabyBear::from_u64(4),
-            BabyBear::from_u64(5),
-            BabyBear::from_u64(6),
-        ]?,
-    })?;
-    steps.push(Step::ObservePow {
-        label: "work",
-        bits: 3,
-    })?;
-    steps.push(Step::ChallengeBits {
-        label: "index",
-        width: 10,
-        n: 2,
-    })?;
-    Ok(steps)
+    vec![in alloc;
+        Step::Opaque {
+            label: "digest",
+            value: Hash::from([
+                Goldilocks::from_u64(1),
+                Goldilocks::from_u64(2),
+                Goldilocks::from_u64(3),
+                Goldilocks::from_u64(18446744069414584320),
+            ]),
+        },
+        Step::PublicScalars {
+            label: "scalars",
+            values: vec![in alloc;
+                BabyBear::from_u64(4),
+                BabyBear::from_u64(5),
+                BabyBear::from_u64(6),
+            ]?,
+        },
+        Step::ObservePow {
+            label: "work",
+            bits: 3,
+        },
+        Step::ChallengeBits {
+            label: "index",
+            width: 10,
+            n: 2,
+        },
+    ]
 }
 
 /// The version and the name of the protocol, the pattern of its steps, and the instance.

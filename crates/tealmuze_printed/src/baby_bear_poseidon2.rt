@@ -56,40 +56,40 @@ pub fn challenger() -> Challenger {
 
 /// The steps, in order.
 pub fn steps(alloc: Global) -> Result<Vec<Step<Protocol>>, AllocError> {
-    let mut steps = Vec::new(alloc);
-    steps.push(Step::Opaque {
-        label: "digest",
-        value: Hash::from([
-            BabyBear::from_u64(1),
-            BabyBear::from_u64(2),
-            BabyBear::from_u64(3),
-            BabyBear::from_u64(4),
-            BabyBear::from_u64(5),
-            BabyBear::from_u64(6),
-            BabyBear::from_u64(7),
-            BabyBear::from_u64(2013265920),
-        ]),
-    })?;
-    steps.push(Step::ObserveExtension {
-        label: "element",
-        value: Coeffs::new([
-            BabyBear::from_u64(1),
-            BabyBear::from_u64(0),
-            BabyBear::from_u64(0),
-            BabyBear::from_u64(2),
-        ]),
-    })?;
-    steps.push(Step::Pow {
-        label: "work",
-        bits: 4,
-    })?;
-    steps.push(Step::ChallengeExtension { label: "beta" })?;
-    steps.push(Step::ChallengeUniformBits {
-        label: "index",
-        width: 8,
-        n: 2,
-    })?;
-    Ok(steps)
+    vec![in alloc;
+        Step::Opaque {
+            label: "digest",
+            value: Hash::from([
+                BabyBear::from_u64(1),
+                BabyBear::from_u64(2),
+                BabyBear::from_u64(3),
+                BabyBear::from_u64(4),
+                BabyBear::from_u64(5),
+                BabyBear::from_u64(6),
+                BabyBear::from_u64(7),
+                BabyBear::from_u64(2013265920),
+            ]),
+        },
+        Step::ObserveExtension {
+            label: "element",
+            value: Coeffs::new([
+                BabyBear::from_u64(1),
+                BabyBear::from_u64(0),
+                BabyBear::from_u64(0),
+                BabyBear::from_u64(2),
+            ]),
+        },
+        Step::Pow {
+            label: "work",
+            bits: 4,
+        },
+        Step::ChallengeExtension { label: "beta" },
+        Step::ChallengeUniformBits {
+            label: "index",
+            width: 8,
+            n: 2,
+        },
+    ]
 }
 
 /// The version and the name of the protocol, the pattern of its steps, and the instance.

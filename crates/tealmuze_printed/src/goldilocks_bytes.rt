@@ -52,29 +52,29 @@ pub fn challenger(alloc: Global) -> Challenger {
 
 /// The steps, in order.
 pub fn steps(alloc: Global) -> Result<Vec<Step<Protocol>>, AllocError> {
-    let mut steps = Vec::new(alloc);
-    steps.push(Step::PublicScalar {
-        label: "greatest",
-        value: Goldilocks::from_u64(18446744069414584320),
-    })?;
-    steps.push(Step::ObserveExtension {
-        label: "element",
-        value: Goldilocks::from_u64(3),
-    })?;
-    steps.push(Step::ObserveExtensions {
-        label: "elements",
-        values: vec![in alloc; Goldilocks::from_u64(1), Goldilocks::from_u64(2)]?,
-    })?;
-    steps.push(Step::Opaque {
-        label: "digest",
-        value: [
-            241, 225, 209, 193, 177, 161, 145, 129, 113, 97, 81, 65, 49, 33, 17, 1, 240, 224, 208,
-            192, 176, 160, 144, 128, 112, 96, 80, 64, 48, 32, 16, 0,
-        ],
-    })?;
-    steps.push(Step::ChallengeScalar { label: "alpha" })?;
-    steps.push(Step::ChallengeExtension { label: "beta" })?;
-    Ok(steps)
+    vec![in alloc;
+        Step::PublicScalar {
+            label: "greatest",
+            value: Goldilocks::from_u64(18446744069414584320),
+        },
+        Step::ObserveExtension {
+            label: "element",
+            value: Goldilocks::from_u64(3),
+        },
+        Step::ObserveExtensions {
+            label: "elements",
+            values: vec![in alloc; Goldilocks::from_u64(1), Goldilocks::from_u64(2)]?,
+        },
+        Step::Opaque {
+            label: "digest",
+            value: [
+                241, 225, 209, 193, 177, 161, 145, 129, 113, 97, 81, 65, 49, 33, 17, 1, 240, 224,
+                208, 192, 176, 160, 144, 128, 112, 96, 80, 64, 48, 32, 16, 0,
+            ],
+        },
+        Step::ChallengeScalar { label: "alpha" },
+        Step::ChallengeExtension { label: "beta" },
+    ]
 }
 
 /// The version and the name of the protocol, the pattern of its steps, and the instance.

@@ -55,18 +55,18 @@ pub fn challenger(alloc: Global) -> Challenger {
 
 /// The steps, in order.
 pub fn steps(alloc: Global) -> Result<Vec<Step<Protocol>>, AllocError> {
-    let mut steps = Vec::new(alloc);
-    steps.push(Step::Opaque {
-        label: "digest",
-        value: Hash::from([1, 2, 3, 18446744073709551615]),
-    })?;
-    steps.push(Step::ChallengeScalar { label: "alpha" })?;
-    steps.push(Step::ChallengeBits {
-        label: "index",
-        width: 63,
-        n: 1,
-    })?;
-    Ok(steps)
+    vec![in alloc;
+        Step::Opaque {
+            label: "digest",
+            value: Hash::from([1, 2, 3, 18446744073709551615]),
+        },
+        Step::ChallengeScalar { label: "alpha" },
+        Step::ChallengeBits {
+            label: "index",
+            width: 63,
+            n: 1,
+        },
+    ]
 }
 
 /// The version and the name of the protocol, the pattern of its steps, and the instance.

@@ -56,21 +56,21 @@ pub fn challenger(alloc: Global) -> Challenger {
 
 /// The steps, in order.
 pub fn steps(alloc: Global) -> Result<Vec<Step<Protocol>>, AllocError> {
-    let mut steps = Vec::new(alloc);
-    steps.push(Step::Opaque {
-        label: "digest",
-        value: Hash::from([0, 0, 0, 4294967296]),
-    })?;
-    steps.push(Step::PublicScalar {
-        label: "scalar",
-        value: Goldilocks::from_u64(9),
-    })?;
-    steps.push(Step::ChallengeUniformBits {
-        label: "index",
-        width: 8,
-        n: 2,
-    })?;
-    Ok(steps)
+    vec![in alloc;
+        Step::Opaque {
+            label: "digest",
+            value: Hash::from([0, 0, 0, 4294967296]),
+        },
+        Step::PublicScalar {
+            label: "scalar",
+            value: Goldilocks::from_u64(9),
+        },
+        Step::ChallengeUniformBits {
+            label: "index",
+            width: 8,
+            n: 2,
+        },
+    ]
 }
 
 /// The version and the name of the protocol, the pattern of its steps, and the instance.

@@ -56,23 +56,23 @@ pub fn challenger() -> Challenger {
 
 /// The steps, in order.
 pub fn steps(alloc: Global) -> Result<Vec<Step<Protocol>>, AllocError> {
-    let mut steps = Vec::new(alloc);
-    steps.push(Step::Opaque {
-        label: "digest",
-        value: Hash::from([
-            Goldilocks::from_u64(1),
-            Goldilocks::from_u64(2),
-            Goldilocks::from_u64(3),
-            Goldilocks::from_u64(18446744069414584320),
-        ]),
-    })?;
-    steps.push(Step::PublicScalarsBounded {
-        label: "counted",
-        values: vec![in alloc; Goldilocks::from_u64(1), Goldilocks::from_u64(2)]?,
-        max: 1000,
-    })?;
-    steps.push(Step::ChallengeExtension { label: "beta" })?;
-    Ok(steps)
+    vec![in alloc;
+        Step::Opaque {
+            label: "digest",
+            value: Hash::from([
+                Goldilocks::from_u64(1),
+                Goldilocks::from_u64(2),
+                Goldilocks::from_u64(3),
+                Goldilocks::from_u64(18446744069414584320),
+            ]),
+        },
+        Step::PublicScalarsBounded {
+            label: "counted",
+            values: vec![in alloc; Goldilocks::from_u64(1), Goldilocks::from_u64(2)]?,
+            max: 1000,
+        },
+        Step::ChallengeExtension { label: "beta" },
+    ]
 }
 
 /// The version and the name of the protocol, the pattern of its steps, and the instance.

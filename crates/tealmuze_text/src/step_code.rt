@@ -12,6 +12,10 @@ use toml::Value;
 // How wide a field is at most that stands on one line with its step.
 const FIELD_ON_THE_LINE: usize = 18;
 
+const SIGNATURE: &str = "/// The steps, in order.
+pub fn steps(alloc: Global) -> Result<Vec<Step<Protocol>>, AllocError> {
+";
+
 /// Writes the steps that a suite plays.
 #[derive(Clone, Copy)]
 pub struct StepWriter {
@@ -22,42 +26,69 @@ pub struct StepWriter {
 }
 
 impl StepWriter {
-    /// Writes the function that makes the steps of a file.
+    /// Writes the function that makes the steps of a file: a list, or one after another where the table repeats some.
     pub fn write_steps(&self, text: &mut String, file: Entry<'_>) -> Result<()> {
-        text.push_str("/// The steps, in order.\n")?;
-        text.push_str(
-            "pub fn steps(alloc: Global) -> Result<Vec<Step<Protocol>>, AllocError> {\n",
-        )?;
-        text.push_str("    let mut steps = Vec::new(alloc);\n")?;
-        for value in file.list("steps")? {
-            self.write_listed(text, Entry::of(value)?)?;
+        text.push_str(SIGNATURE)?;
+        let steps = file.list("steps")?;
+        if steps.is_empty() || has_repetition(steps)? {
+            self.write_pushed(text, steps)?;
+        } else {
+            self.write_list(text, steps)?;
         }
-        text.push_str("    Ok(steps)\n}\n\n")?;
+        text.push_str("}\n\n")?;
+        Ok(())
+    }
+
+    fn write_list(&self, text: &mut String, steps: &[Value]) -> Result<()> {
+        text.push_str("    vec![in alloc;\n")?;
+        for value in steps {
+            text.push_str("        ")?;
+            self.write_step(text, Entry::of(value)?, "        ")?;
+            text.push_str(",\n")?;
+        }
+        text.push_str("    ]\n")?;
+        Ok(())
+    }
+
+    fn write_pushed(&self, text: &mut String, steps: &[Value]) -> Result<()> {
+        text.push_str("    let mut steps = Vec::new(alloc);\n")?;
+        for value in steps {
+            self.write_once_or_more(text, Entry::of(value)?)?;
+        }
+        text.push_str("    Ok(steps)\n")?;
         Ok(())
     }
 
     // Writes a step, or a loop where the table says how many times steps stand.
-    fn write_listed(&self, text: &mut String, entry: Entry<'_>) -> Result<()> {
+    fn write_once_or_more(&self, text: &mut String, entry: Entry<'_>) -> Result<()> {
         if !entry.has(REPEAT) {
-            return self.write_step(text, entry, "    ");
+            return self.write_push(text, entry, "    ");
         }
         let times = entry.count(REPEAT)?;
         writeln!(text, "    for _ in 0..{times} {{")?;
         for value in entry.list("steps")? {
-            self.write_step(text, Entry::of(value)?, "        ")?;
+            self.write_push(text, Entry::of(value)?, "        ")?;
         }
         text.push_str("    }\n")?;
         Ok(())
     }
 
-    // Writes a step, with this space before its lines.
+    // Writes that a step is added, with this space before its lines.
+    fn write_push(&self, text: &mut String, entry: Entry<'_>, space: &str) -> Result<()> {
+        write!(text, "{space}steps.push(")?;
+        self.write_step(text, entry, space)?;
+        text.push_str(")?;\n")?;
+        Ok(())
+    }
+
+    // Writes a step, with this space before its further lines.
     fn write_step(&self, text: &mut String, entry: Entry<'_>, space: &str) -> Result<()> {
         let name = entry.text("type")?;
         let mut fields = Vec::new(self.alloc);
         for key in keys_of(name)?.iter().skip(1) {
             fields.push(self.field(entry, name, *key)?)?;
         }
-        write!(text, "{space}steps.push(Step::{} {{", Camel { name })?;
+        write!(text, "Step::{} {{", Camel { name })?;
         match &fields[..] {
             [label] if label.len() <= FIELD_ON_THE_LINE => write!(text, " {label} ")?,
             fields => {
@@ -67,7 +98,7 @@ impl StepWriter {
                 write!(text, "\n{space}")?;
             }
         }
-        text.push_str("})?;\n")?;
+        text.push_str("}")?;
         Ok(())
     }
 
@@ -160,6 +191,15 @@ impl StepWriter {
         let elements = list.text;
         Ok(format!(in self.alloc; "Hash::from([{elements}])")?)
     }
+}
+
+fn has_repetition(steps: &[Value]) -> Result<bool> {
+    for value in steps {
+        if Entry::of(value)?.has(REPEAT) {
+            return Ok(true);
+        }
+    }
+    Ok(false)
 }
 
 // Elements with commas between.
