@@ -1,11 +1,11 @@
 -- What a call answers, by what was found.
 use Rattle.std.proofs.Common.{ℕ, ◌≡◌, ◌<◌, List, length, inl, inr, sym, subst, arith, Result, Ok, Err}
 use Rattle.std.specs.Result.{IfOk, IfErr}
-use Rattle.tealmuze_c.specs.{Errors.IsDueTo, Forms.IsWritten, Written.{Answers, ByAnswer, IsNoVerdict, IsTold}}
-use Rattle.tealmuze_c.specs.declared.telling.Answer.{Answer}
-use Rattle.tealmuze_c.specs.declared.unanswered.Unanswered.{Unanswered}
-use Rattle.tealmuze_c.specs.declared.unanswered.Unanswered.TheVariants.{OutOfMemory}
-use Rattle.tealmuze_c.specs.declared.telling.Answer.TheVariants as answer
+use Rattle.tealmuze_calls.specs.{Errors.IsDueTo, Forms.IsWritten, Written.{Answers, ByAnswer, IsNoVerdict, IsTold}}
+use Rattle.tealmuze_calls.specs.declared.telling.Answer.{Answer}
+use Rattle.tealmuze_calls.specs.declared.unanswered.Unanswered.{Unanswered}
+use Rattle.tealmuze_calls.specs.declared.unanswered.Unanswered.TheVariants.{OutOfMemory}
+use Rattle.tealmuze_calls.specs.declared.telling.Answer.TheVariants as answer
 
 -- no verdict, for what an error is due to
 no_verdict : (Asked : Type 0) (e : Unanswered) (told : List ℕ) → IsDueTo (Asked → ⊥) e →

@@ -7,33 +7,11 @@
 #![tactic(auto)]
 
 ghost use Rattle.std.specs.Prelude.{length};
-ghost use Rattle.tealmuze_c.specs.Written.{Answers, BySuite};
+ghost use Rattle.tealmuze_calls.specs.Written.{Answers, BySuite};
 
-mod answers;
-mod calls;
-mod cursor;
-mod description;
-mod proving;
-mod readings;
-mod room;
-mod rooms;
-mod steps;
-mod suites;
-mod telling;
-mod unanswered;
-mod values;
-mod verdicts;
-mod verifying;
-mod words;
-
-use crate::calls::Calls;
-pub use crate::readings::{
-    described_protocols_are_alike, description_has_one_reading, verdicts_are_of_what_is_described,
-};
-pub use crate::rooms::wanted_room_suffices;
-use crate::telling::tell;
 use p3_symmetric::Sha256Hasher;
 use std::alloc::Global;
+use tealmuze_calls::{Calls, prove, tell, verify};
 use test_suites::{HashSuite, Serializing32Suite};
 
 /// Verifies a proof of the protocol that the description has, with the witnesses that its `observe_pow` steps are
@@ -60,7 +38,7 @@ pub extern "C" fn tealmuze_verify(
         (⟦<Serializing32Suite as Calls>⟧.wants_room 1 4 (length proof.now)) description.now)
         answer.old result answer.new }
 {
-    let found = verifying::verify(alloc, description, proof, carried, answer.len());
+    let found = verify(alloc, description, proof, carried, answer.len());
     tell(alloc, found, answer)
 }
 
@@ -85,6 +63,6 @@ pub extern "C" fn tealmuze_prove(
         (⟦<Serializing32Suite as Calls>⟧.wants_room 1 4 (length values.now)) description.now)
         answer.old result answer.new }
 {
-    let found = proving::prove(alloc, description, values, answer.len());
+    let found = prove(alloc, description, values, answer.len());
     tell(alloc, found, answer)
 }

@@ -1,5 +1,0 @@
-use Rattle.tealmuze_c.proofs.Codes.{reading-one}
-use Rattle.tealmuze_c.proofs.readings.description_has_one_reading.Goals as goal
-
-pub returns : goal.returns
-returns c = reading-one

@@ -1,0 +1,17 @@
+pub mod Alike
+pub mod Codes
+pub mod Lemmas
+pub mod Plain
+pub mod RoomBounds
+pub mod SameRuns
+pub mod Sizes
+pub mod StepSizes
+pub mod Rest
+pub mod Dues
+pub mod Numbers
+pub mod Views
+pub mod Plays
+pub mod Readers
+pub mod Labels
+pub mod Handed
+pub mod Sendable

@@ -1,0 +1,32 @@
+//! What the calls from C answer: a protocol that bytes describe, verified or proved, and what is told of that.
+//!
+//! `docs/BINDINGS.md` says what the bytes of a description and of an answer are. `tealmuze_c` exports the calls.
+#![tactic(auto)]
+
+mod answers;
+mod calls;
+mod cursor;
+mod description;
+mod proving;
+mod readings;
+mod room;
+mod rooms;
+mod steps;
+mod suites;
+mod telling;
+mod unanswered;
+mod values;
+mod verdicts;
+mod verifying;
+mod words;
+
+pub use crate::calls::Calls;
+pub use crate::proving::prove;
+pub use crate::readings::{
+    described_protocols_are_alike, description_has_one_reading, verdicts_are_of_what_is_described,
+};
+pub use crate::rooms::wanted_room_suffices;
+pub use crate::suites::Called;
+pub use crate::telling::{Answer, tell};
+pub use crate::unanswered::Unanswered;
+pub use crate::verifying::verify;

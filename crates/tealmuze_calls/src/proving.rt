@@ -1,0 +1,120 @@
+//! Values that are proved by one call.
+ghost use Rattle.std.specs.Prelude.{◌≡◌, ◌<◌, ◌∷◌, ◌++◌, length, IfOk, IfErr, List};
+ghost use Rattle.p3_challenger.specs.{Provings.AreHanded, Runs.AreAdmitted, Verdicts.script_of, Values.Value};
+ghost use Rattle.p3_challenger.specs.Scripts.{play_of, values_sent, challenges_of};
+ghost use Rattle.tealmuze_calls.specs.Forms.{number_bytes, counted_bytes, listed_bytes, scalar_bytes};
+ghost use Rattle.tealmuze_calls.specs.Forms.{value_bytes, challenge_bytes};
+ghost use Rattle.tealmuze_calls.specs.{Errors.IsDueTo, Told.TellsOfValues, Written.{ByAnswer, BySuite}};
+
+use crate::answers::{put_challenges, put_counted, put_scalars};
+use crate::calls::Calls;
+use crate::cursor::Cursor;
+use crate::description::Protocol;
+use crate::room::wanted_room;
+use crate::suites::Called;
+use crate::telling::Answer;
+use crate::unanswered::Unanswered;
+use crate::values::parse_values;
+use crate::verdicts::{DONE, refused};
+use p3_challenger::Sponge;
+use p3_challenger::fs::script::{Meaning, Proved, Sent, prove as prove_script, sent_matches};
+use p3_symmetric::Sha256Hasher;
+use std::alloc::{AllocError, Global};
+use test_suites::{HashSuite, Serializing32Suite};
+
+/// Proves values, and answers what is told of them. `room` bytes are given for it: where the answer may have more,
+/// nothing is proved.
+pub fn prove(
+    alloc: Global,
+    description: &'static [u8],
+    values: &[u8],
+    room: usize,
+) -> Result<Answer, Unanswered>
+    ensures ok { IfOk result (ByAnswer (BySuite
+        (⟦<HashSuite<Sha256Hasher> as Calls>⟧.tells_of_values 1 values.now)
+        (⟦<Serializing32Suite as Calls>⟧.tells_of_values 1 values.now) description.now)
+        (λ wanted. BySuite (⟦<HashSuite<Sha256Hasher> as Calls>⟧.wants_room 1 4 (length values.now))
+        (⟦<Serializing32Suite as Calls>⟧.wants_room 1 4 (length values.now)) description.now wanted
+        × room < wanted)) }
+    ensures err { IfErr result (IsDueTo (BySuite (⟦<HashSuite<Sha256Hasher> as Calls>⟧.asks_of_values 1)
+        (⟦<Serializing32Suite as Calls>⟧.asks_of_values 1) description.now values.now → ⊥)) }
+{
+    let mut from = Cursor::new(description);
+    match from.byte()? {
+        0 => prove_in::<HashSuite<Sha256Hasher>>(alloc, from, values, room),
+        1 => prove_in::<Serializing32Suite>(alloc, from, values, room),
+        suite => Err(Unanswered::Suite(suite)),
+    }
+}
+
+// Proves values of the protocol that these bytes describe.
+fn prove_in<S: Called>(
+    alloc: Global,
+    from: Cursor<'static>,
+    values: &[u8],
+    room: usize,
+) -> Result<Answer, Unanswered>
+    ensures ok { IfOk result (ByAnswer (⟦<S as Calls>⟧.tells_of_values S.Field.DIMENSION values.now
+        from.entry.left.now) (λ wanted. ⟦<S as Calls>⟧.wants_room S.Field.DIMENSION
+        S.Extension.DIMENSION (length values.now) from.entry.left.now wanted × room < wanted)) }
+    ensures err { IfErr result
+        (IsDueTo (⟦<S as Calls>⟧.asks_of_values S.Field.DIMENSION from.entry.left.now values.now → ⊥)) }
+{
+    let protocol = Protocol::<S>::parse(alloc, from)?;
+    let wanted = wanted_room(protocol.steps.as_slice(), values.len());
+    if wanted > room {
+        return Ok(Answer::Wants(wanted));
+    }
+    let sent = parse_values::<S>(alloc, values)?;
+    let bytes = answer(alloc, S::fresh(alloc), &protocol, sent.as_slice())?;
+    Ok(Answer::Told(bytes))
+}
+
+// Proves values of the protocol.
+//
+// The answer's first byte is 0 exactly where `prove` proves them; what stands after it is the proof, the witnesses, those
+// of them that the proof does not carry, and what was drawn. It is 1 where that refuses them for another reason than
+// memory. The error is [`Unanswered::Values`] where the values are not those of the steps, and else
+// [`Unanswered::OutOfMemory`].
+fn answer<S: Called>(
+    alloc: Global,
+    challenger: S::Challenger,
+    protocol: &Protocol<S>,
+    sent: &[Sent<S>],
+) -> Result<Vec<u8>, Unanswered>
+    requires { let rules = ⟦<S as Meaning>⟧.rules S.Field.DIMENSION in
+        AreAdmitted (play_of rules) protocol.now.steps.items }
+    ensures ok { let rules = ⟦<S as Meaning>⟧.rules S.Field.DIMENSION in
+        let script = script_of (S.Challenger.state challenger) protocol.now.separator protocol.now.steps.items in
+        IfOk result (λ bytes. TellsOfValues rules S.Field.residues.number S.Extension.coefficients script
+        (values_sent sent.now) bytes.items) }
+    ensures err { let rules = ⟦<S as Meaning>⟧.rules S.Field.DIMENSION in
+        IfErr result (IsDueTo (AreHanded (play_of rules) protocol.now.steps.items (values_sent sent.now) → ⊥)) }
+{
+    let steps = protocol.steps.as_slice();
+    if !sent_matches(steps, sent) {
+        return Err(Unanswered::Values);
+    }
+    match prove_script::<S>(alloc, challenger, &protocol.separator, steps, sent) {
+        Ok(proved) => Ok(told(alloc, &proved)?),
+        Err(fault) => refused(alloc, &fault),
+    }
+}
+
+// What is told of values that are proved.
+fn told<S: Called>(alloc: Global, proved: &Proved<S>) -> Result<Vec<u8>, AllocError>
+    ensures { let scalar = scalar_bytes S.Field.residues.number S.Extension.coefficients in
+        IfOk result (λ bytes. bytes.items ≡ 0 ∷ (counted_bytes proved.now.narg.items
+        ++ (listed_bytes scalar proved.now.witnesses.items
+        ++ (listed_bytes scalar proved.now.carried.items
+        ++ listed_bytes (challenge_bytes S.Field.residues.number S.Extension.coefficients)
+        (challenges_of proved.now.challenges.items))))) }
+{
+    let mut bytes = Vec::new(alloc);
+    bytes.push(DONE)?;
+    put_counted(&mut bytes, proved.narg.as_slice())?;
+    put_scalars(&mut bytes, proved.witnesses.as_slice())?;
+    put_scalars(&mut bytes, proved.carried.as_slice())?;
+    put_challenges(&mut bytes, proved.challenges.as_slice())?;
+    Ok(bytes)
+}

@@ -1,0 +1,149 @@
+//! A proof that is verified by one call.
+ghost use Rattle.std.specs.Prelude.{◌≡◌, ◌<◌, ◌∷◌, ◌++◌, length, map, IfOk, IfErr};
+ghost use Rattle.p3_challenger.specs.{Runs.{AreAdmitted, carried_count}, Verdicts.script_of};
+ghost use Rattle.p3_challenger.specs.Scripts.{play_of, values_received, challenges_of};
+ghost use Rattle.tealmuze_calls.specs.Forms.{listed_bytes, value_bytes, challenge_bytes};
+ghost use Rattle.tealmuze_calls.specs.{Errors.IsDueTo, Told.{TellsOfProof, CanBeCarried}, Written.{ByAnswer, BySuite}};
+
+use crate::answers::{put_challenges, put_received};
+use crate::calls::Calls;
+use crate::cursor::Cursor;
+use crate::description::Protocol;
+use crate::room::wanted_room;
+use crate::suites::Called;
+use crate::telling::Answer;
+use crate::unanswered::Unanswered;
+use crate::verdicts::{DONE, refused};
+use crate::words::scalars;
+use p3_challenger::Sponge;
+use p3_challenger::fs::script::{Meaning, Step, Verified, carried_len, verify as verify_script};
+use p3_symmetric::Sha256Hasher;
+use std::alloc::{AllocError, Global};
+use test_suites::{HashSuite, Serializing32Suite};
+
+/// Verifies a proof, and answers what is told of it. `room` bytes are given for it: where the answer may have more,
+/// nothing is verified.
+pub fn verify(
+    alloc: Global,
+    description: &'static [u8],
+    proof: &[u8],
+    carried: &[u64],
+    room: usize,
+) -> Result<Answer, Unanswered>
+    ensures ok { IfOk result (ByAnswer (BySuite
+        (⟦<HashSuite<Sha256Hasher> as Calls>⟧.tells_of_proof 1 proof.now carried.now)
+        (⟦<Serializing32Suite as Calls>⟧.tells_of_proof 1 proof.now carried.now) description.now)
+        (λ wanted. BySuite (⟦<HashSuite<Sha256Hasher> as Calls>⟧.wants_room 1 4 (length proof.now))
+        (⟦<Serializing32Suite as Calls>⟧.wants_room 1 4 (length proof.now)) description.now wanted
+        × room < wanted)) }
+    ensures err { IfErr result (IsDueTo (BySuite (⟦<HashSuite<Sha256Hasher> as Calls>⟧.asks_of_proof 1)
+        (⟦<Serializing32Suite as Calls>⟧.asks_of_proof 1) description.now carried.now → ⊥)) }
+{
+    let mut from = Cursor::new(description);
+    match from.byte()? {
+        0 => verify_in::<HashSuite<Sha256Hasher>>(alloc, from, proof, carried, room),
+        1 => verify_in::<Serializing32Suite>(alloc, from, proof, carried, room),
+        suite => Err(Unanswered::Suite(suite)),
+    }
+}
+
+// Verifies a proof of the protocol that these bytes describe.
+fn verify_in<S: Called>(
+    alloc: Global,
+    from: Cursor<'static>,
+    proof: &[u8],
+    carried: &[u64],
+    room: usize,
+) -> Result<Answer, Unanswered>
+    ensures ok { IfOk result (ByAnswer (⟦<S as Calls>⟧.tells_of_proof S.Field.DIMENSION proof.now
+        carried.now from.entry.left.now) (λ wanted. ⟦<S as Calls>⟧.wants_room S.Field.DIMENSION
+        S.Extension.DIMENSION (length proof.now) from.entry.left.now wanted × room < wanted)) }
+    ensures err { IfErr result
+        (IsDueTo (⟦<S as Calls>⟧.asks_of_proof S.Field.DIMENSION from.entry.left.now carried.now → ⊥)) }
+{
+    let protocol = Protocol::<S>::parse(alloc, from)?;
+    let wanted = wanted_room(protocol.steps.as_slice(), proof.len());
+    if wanted > room {
+        return Ok(Answer::Wants(wanted));
+    }
+    let bytes = answer(alloc, S::fresh(alloc), &protocol, proof, carried)?;
+    Ok(Answer::Told(bytes))
+}
+
+// Verifies a proof of the protocol.
+//
+// The answer's first byte is 0 exactly where `verify` accepts it, with the witnesses of these numbers; what stands after
+// it is what was received, in order, and what was drawn. It is 1 where that refuses it for another reason than memory.
+// An error is [`Unanswered::OutOfMemory`], or comes where these numbers are not those of as many witnesses as the steps
+// are carried: then it is [`Unanswered::Carried`].
+fn answer<S: Called>(
+    alloc: Global,
+    challenger: S::Challenger,
+    protocol: &Protocol<S>,
+    proof: &[u8],
+    carried: &[u64],
+) -> Result<Vec<u8>, Unanswered>
+    requires { let rules = ⟦<S as Meaning>⟧.rules S.Field.DIMENSION in
+        AreAdmitted (play_of rules) protocol.now.steps.items }
+    ensures ok { let rules = ⟦<S as Meaning>⟧.rules S.Field.DIMENSION in
+        let script = script_of (S.Challenger.state challenger) protocol.now.separator protocol.now.steps.items in
+        IfOk result (λ bytes. TellsOfProof rules S.Field.residues.number S.Extension.coefficients script
+        proof.now carried.now bytes.items) }
+    ensures err { let rules = ⟦<S as Meaning>⟧.rules S.Field.DIMENSION in
+        let count = carried_count (play_of rules) protocol.now.steps.items in
+        IfErr result (IsDueTo (CanBeCarried count S.Field.residues.order carried.now → ⊥)) }
+{
+    let steps = protocol.steps.as_slice();
+    let witnesses = witnesses::<S>(alloc, steps, carried)?;
+    let witnesses = witnesses.as_slice();
+    match verify_script::<S>(
+        alloc,
+        challenger,
+        &protocol.separator,
+        steps,
+        witnesses,
+        proof,
+    ) {
+        Ok(verified) => Ok(accepted(alloc, &verified)?),
+        Err(fault) => refused(alloc, &fault),
+    }
+}
+
+// The witnesses of these numbers: as many as the steps are carried.
+fn witnesses<S: Called>(
+    alloc: Global,
+    steps: &[Step<S>],
+    carried: &[u64],
+) -> Result<Vec<S::Field>, Unanswered>
+    ensures numbers { IfOk result
+        (λ witnesses. map S.Field.residues.number witnesses.items ≡ carried.now) }
+    ensures count { let rules = ⟦<S as Meaning>⟧.rules S.Field.DIMENSION in IfOk result
+        (λ witnesses. carried_count (play_of rules) steps.now ≡ length witnesses.items) }
+    ensures err { let rules = ⟦<S as Meaning>⟧.rules S.Field.DIMENSION in
+        let count = carried_count (play_of rules) steps.now in
+        IfErr result (IsDueTo (CanBeCarried count S.Field.residues.order carried.now → ⊥)) }
+{
+    if carried_len(steps) != carried.len() {
+        return Err(Unanswered::Carried);
+    }
+    match scalars(alloc, carried) {
+        Ok(witnesses) => Ok(witnesses),
+        Err(Unanswered::OutOfMemory) => Err(Unanswered::OutOfMemory),
+        Err(_) => Err(Unanswered::Carried),
+    }
+}
+
+// What is told of a proof that is accepted.
+fn accepted<S: Called>(alloc: Global, verified: &Verified<'_, S>) -> Result<Vec<u8>, AllocError>
+    ensures { IfOk result (λ bytes. bytes.items ≡ 0 ∷ (listed_bytes
+        (value_bytes S.Field.residues.number S.Extension.coefficients)
+        (values_received verified.now.received.items)
+        ++ listed_bytes (challenge_bytes S.Field.residues.number S.Extension.coefficients)
+        (challenges_of verified.now.challenges.items))) }
+{
+    let mut bytes = Vec::new(alloc);
+    bytes.push(DONE)?;
+    put_received(&mut bytes, verified.received.as_slice())?;
+    put_challenges(&mut bytes, verified.challenges.as_slice())?;
+    Ok(bytes)
+}
