@@ -10,7 +10,7 @@ from wrong_bodies import libraries
 from wrong_bodies.kit import rtlib
 
 from . import table
-from .parts import Part
+from .parts import Part, run_together
 
 ROOT = os.path.dirname(os.path.dirname(os.path.dirname(os.path.realpath(__file__))))
 TABLE = "out/gate-table.md"
@@ -32,10 +32,11 @@ The repository's test command. It runs, at the top of the repository,
   tools/wrong-bodies              wrong bodies, which the prover must refuse: those whose refusal is not on record as the text is
                                   now, and a sample of the others
 
-each on all processors, and each also where one before it failed. It prints what each part and each crate took, and writes
-that to {TABLE}. The last line is 'N passed, M failed', the counts of the parts added; a part that gives no count is a
-failure, and what --without leaves out the last line says. The exit status is 1 where anything failed. It changes no file that
-git knows. Libraries that rt check built are built again when they are next needed."""
+The first and the last take all processors, and those between run beside one another; each runs also where one before it
+failed. It prints what each part and each crate took, and writes that to {TABLE}. The last line is 'N passed, M failed',
+the counts of the parts added; a part that gives no count is a failure, and what --without leaves out the last line says.
+The exit status is 1 where anything failed. It changes no file that git knows. Libraries that rt check built are built again
+when they are next needed."""
 
 
 def main(words):
@@ -66,8 +67,7 @@ def main(words):
                 Part("tools/self-test", [f"{ROOT}/tools/self-test"]),
                 Part("tools/wrong-bodies --self-test", [f"{ROOT}/tools/wrong-bodies", "--self-test"]),
             ]
-            for it in others:
-                it.run(ROOT)
+            run_together(others, ROOT)
             parts = [proofs, *others, bodies]
         bodies.run(ROOT)
         rows = rtlib.text_of(f"{room}/rows") or ""
