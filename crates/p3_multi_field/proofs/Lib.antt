@@ -1,5 +1,6 @@
 pub mod Batches
 pub mod Calls
+pub mod Candidates
 pub mod ErrorEquality
 pub mod MultiFieldQueries
 pub mod MultiFieldSteps

@@ -1,5 +1,7 @@
 //! The search for a witness, whose checks all start from one prepared state: a candidate changes one digit of one cell.
 ghost use Rattle.std.specs.Prelude.{◌≡◌, ◌<◌, ◌≤◌, ◌^◌, ◌↔◌, MatchOption, IsOk, IsTrue, slice_set, length};
+ghost use Rattle.std.specs.Prelude.{[], ◌∷◌, ◌++◌};
+ghost use Rattle.p3_field_bridge.specs.Bridges.{packed};
 ghost use Rattle.p3_challenger_core.specs.Sampling.{most_bits_of};
 ghost use Rattle.p3_grinding.specs.Checks.{FindsOrRefuses};
 ghost use Rattle.p3_multi_field.specs.PreparedChecks.{PreparedFor, Accepts, IsLeastAccepted, NoneAccepted, check};
@@ -14,8 +16,8 @@ use p3_symmetric::CryptographicPermutation;
 use std::marker::Model;
 
 // What the checks of all candidates start from: the rate packs what is pending, with one scalar more counted, the
-// candidate. It is the last scalar of its cell, which is packed anew for each. The fields are in kind and order those
-// of the challenger: so where that has room, these have.
+// candidate. It is the last scalar of its cell. The fields are in kind and order those of the challenger: so where that
+// has room, these have.
 #[derive(Drop)]
 struct PowCheck<
     F: PrimeField32,
@@ -25,8 +27,8 @@ struct PowCheck<
     const RATE: usize,
 > {
     cells: [PF; WIDTH],
-    // The scalars of the candidate's cell: `within` of them, and then the candidate. The others are of no meaning.
-    digits: [F; 255],
+    // The scalars before the candidate in its cell are the first `within`. The others are of no meaning.
+    before: [F; 255],
     // The candidate's cell.
     place: usize,
     within: usize,
@@ -48,7 +50,7 @@ impl<
     ghost view = { λ s. record {
       cells = s.cells;
       place = s.place;
-      before = take s.within s.digits;
+      before = take s.within s.before;
       permutation = s.permutation;
     } };
 
@@ -80,54 +82,43 @@ impl<
           permutation = permutation;
         } }
     {
-        let mut digits = [zero(); 255];
-        write_after(&mut digits[..], 0, before);
+        let mut scalars = [zero(); 255];
+        write_after(&mut scalars[..], 0, before);
         PowCheck {
             cells,
-            digits,
+            before: scalars,
             place,
             within: before.len(),
             permutation,
         }
     }
 
-    // The least candidate that passes a check of `bits` bits, if one does.
+    // The least candidate that passes a check of `bits` bits, if one does. The cell of the candidate 0 packs what is
+    // before it. From each candidate to the next the cell is more by the weight of a candidate's digit.
     fn least(self, bits: usize) -> Option<F>
         requires { bits < 64 }
         ensures { let pair = ⟦<PF as HasFieldPair<F>>⟧.field_pair in
             MatchOption result (NoneAccepted pair P.permutation RATE self bits)
             (IsLeastAccepted pair P.permutation RATE self bits) }
     {
-        let mut check = self;
-        check.first_accepted(bits)
-    }
-
-    // The same, where the checks are kept.
-    fn first_accepted(&mut self, bits: usize) -> Option<F>
-        requires { bits < 64 }
-        ensures { let pair = ⟦<PF as HasFieldPair<F>>⟧.field_pair in
-            MatchOption result (NoneAccepted pair P.permutation RATE self.old bits)
-            (IsLeastAccepted pair P.permutation RATE self.old bits) }
-    {
+        let weight = PF::from_u64(1 << PF::RADIX_BITS).exp_u64(self.within as u64);
+        let mut value = PF::pack(&self.before[..self.within]);
         'candidates: for number in 0..F::ORDER_U64 {
-            let candidate = F::from_canonical(number);
-            if self.accepts(candidate, bits) {
-                return Some(candidate);
+            if self.accepts(value, bits) {
+                return Some(F::from_canonical(number));
             }
+            value = value + weight;
         }
         None
     }
 
-    // Whether a candidate passes: whether so many low bits of what it gives are 0.
-    fn accepts(&mut self, candidate: F, bits: usize) -> bool
+    // Whether the candidate passes whose cell has this value: whether so many low bits of what it gives are 0.
+    fn accepts(&self, value: PF, bits: usize) -> bool
         requires { bits < 64 }
-        ensures passes { IsTrue result ↔ Accepts ⟦<PF as HasFieldPair<F>>⟧.field_pair
-            P.permutation RATE self.old bits candidate }
-        ensures stays { self.new ≡ self.old }
+        ensures { let pair = ⟦<PF as HasFieldPair<F>>⟧.field_pair in
+            (x : F) → packed F.residues PF.residues PF.RADIX_BITS (self.now.before ++ x ∷ []) ≡ value →
+            IsTrue result ↔ Accepts pair P.permutation RATE self.now bits x }
     {
-        let within = self.within;
-        self.digits[within] = candidate;
-        let value = PF::pack(&self.digits[..within + 1]);
         let mut cells = self.cells_with(value);
         self.permutation.permute_mut(&mut cells);
         let given: F = PF::digit(cells[RATE - 1], PF::SQUEEZE_COUNT - 1);
