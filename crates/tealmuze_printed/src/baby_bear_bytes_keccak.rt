@@ -52,7 +52,7 @@ pub fn challenger(alloc: Global) -> Challenger {
 
 /// The steps, in order.
 pub fn steps(alloc: Global) -> Result<Vec<Step<Protocol>>, AllocError> {
-    vec![in alloc;
+    Ok(vec![in alloc;
         Step::Begin {
             label: "sent",
             kind: Kind::Protocol,
@@ -92,7 +92,7 @@ pub fn steps(alloc: Global) -> Result<Vec<Step<Protocol>>, AllocError> {
             label: "sent",
             kind: Kind::Protocol,
         },
-    ]
+    ]?)
 }
 
 /// The version and the name of the protocol, the pattern of its steps, and the instance.

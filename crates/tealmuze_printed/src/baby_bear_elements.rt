@@ -57,7 +57,7 @@ pub fn challenger(alloc: Global) -> Challenger {
 
 /// The steps, in order.
 pub fn steps(alloc: Global) -> Result<Vec<Step<Protocol>>, AllocError> {
-    vec![in alloc;
+    Ok(vec![in alloc;
         Step::Begin {
             label: "work",
             kind: Kind::Protocol,
@@ -99,7 +99,7 @@ pub fn steps(alloc: Global) -> Result<Vec<Step<Protocol>>, AllocError> {
             label: "work",
             kind: Kind::Protocol,
         },
-    ]
+    ]?)
 }
 
 /// The version and the name of the protocol, the pattern of its steps, and the instance.

@@ -56,7 +56,7 @@ pub fn challenger() -> Result<Challenger, MultiField32ChallengerError> {
 
 /// The steps, in order.
 pub fn steps(alloc: Global) -> Result<Vec<Step<Protocol>>, AllocError> {
-    vec![in alloc;
+    Ok(vec![in alloc;
         Step::Opaque {
             label: "digest",
             value: Hash::from([
@@ -83,7 +83,7 @@ pub fn steps(alloc: Global) -> Result<Vec<Step<Protocol>>, AllocError> {
             width: 10,
             n: 2,
         },
-    ]
+    ]?)
 }
 
 /// The version and the name of the protocol, the pattern of its steps, and the instance.

@@ -52,7 +52,7 @@ pub fn challenger(alloc: Global) -> Challenger {
 
 /// The steps, in order.
 pub fn steps(alloc: Global) -> Result<Vec<Step<Protocol>>, AllocError> {
-    vec![in alloc;
+    Ok(vec![in alloc;
         Step::PublicScalar {
             label: "greatest",
             value: Goldilocks::from_u64(18446744069414584320),
@@ -74,7 +74,7 @@ pub fn steps(alloc: Global) -> Result<Vec<Step<Protocol>>, AllocError> {
         },
         Step::ChallengeScalar { label: "alpha" },
         Step::ChallengeExtension { label: "beta" },
-    ]
+    ]?)
 }
 
 /// The version and the name of the protocol, the pattern of its steps, and the instance.

@@ -55,7 +55,7 @@ pub fn challenger(alloc: Global) -> Challenger {
 
 /// The steps, in order.
 pub fn steps(alloc: Global) -> Result<Vec<Step<Protocol>>, AllocError> {
-    vec![in alloc;
+    Ok(vec![in alloc;
         Step::Opaque {
             label: "digest",
             value: Hash::from([1, 2, 3, 18446744073709551615]),
@@ -66,7 +66,7 @@ pub fn steps(alloc: Global) -> Result<Vec<Step<Protocol>>, AllocError> {
             width: 63,
             n: 1,
         },
-    ]
+    ]?)
 }
 
 /// The version and the name of the protocol, the pattern of its steps, and the instance.

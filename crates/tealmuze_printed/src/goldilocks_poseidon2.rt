@@ -56,7 +56,7 @@ pub fn challenger() -> Challenger {
 
 /// The steps, in order.
 pub fn steps(alloc: Global) -> Result<Vec<Step<Protocol>>, AllocError> {
-    vec![in alloc;
+    Ok(vec![in alloc;
         Step::Opaque {
             label: "digest",
             value: Hash::from([
@@ -72,7 +72,7 @@ pub fn steps(alloc: Global) -> Result<Vec<Step<Protocol>>, AllocError> {
             max: 1000,
         },
         Step::ChallengeExtension { label: "beta" },
-    ]
+    ]?)
 }
 
 /// The version and the name of the protocol, the pattern of its steps, and the instance.

@@ -40,13 +40,13 @@ impl StepWriter {
     }
 
     fn write_list(&self, text: &mut String, steps: &[Value]) -> Result<()> {
-        text.push_str("    vec![in alloc;\n")?;
+        text.push_str("    Ok(vec![in alloc;\n")?;
         for value in steps {
             text.push_str("        ")?;
             self.write_step(text, Entry::of(value)?, "        ")?;
             text.push_str(",\n")?;
         }
-        text.push_str("    ]\n")?;
+        text.push_str("    ]?)\n")?;
         Ok(())
     }
 
