@@ -3,7 +3,7 @@ use crate::command::Request;
 use crate::json::{Object, ToJson, list, optional};
 use crate::line::StepOnLine;
 use crate::refusal::RefusalShown;
-use crate::shown::{Lines, Shown};
+use crate::shown::{Lines, SeedLine, Shown};
 use anyhow::Result;
 use std::alloc::Global;
 
@@ -52,15 +52,9 @@ pub struct PatternShown {
 impl PatternShown {
     /// The pattern, its digest and the seed as text.
     pub fn text(&self, alloc: Global) -> Result<String> {
-        let PatternShown {
-            pattern,
-            digest,
-            ..
-        } = self;
-        match &self.seed {
-            Some(seed) => Ok(format!(in alloc; "{pattern}digest {digest}\nseed {seed}\n")?),
-            None => Ok(format!(in alloc; "{pattern}digest {digest}\n")?),
-        }
+        let (pattern, digest) = (&self.pattern, &self.digest);
+        let seed = SeedLine { seed: &self.seed };
+        Ok(format!(in alloc; "{pattern}digest {digest}\n{seed}")?)
     }
 }
 

@@ -42,126 +42,147 @@ pub fn parse<'a>(alloc: Global, words: &'a [&'a str]) -> Result<ArgMatches<'a>, 
     grammar(alloc)?.try_get_matches_from(words)
 }
 
-// A command as a command line has it: its name, what it is for, and the file that it has beside the protocol's.
+// A command as a command line has it, and what it takes.
 struct Usage {
     name: &'static str,
     about: &'static str,
-    second: Option<(&'static str, &'static str)>,
+    words: &'static [Word],
 }
 
-const PATTERN: Usage = Usage {
-    name: "pattern",
-    about: "Shows the pattern, its digest and the seed",
-    second: None,
+// What a command takes: a file that it needs, which is set, or an option by its name.
+struct Word {
+    name: &'static str,
+    help: &'static str,
+    action: ArgAction,
+    // whether it stands before or after any command
+    is_global: bool,
+}
+
+const FILE: Word = Word {
+    name: "FILE",
+    help: "the protocol, in TOML",
+    action: ArgAction::Set,
+    is_global: false,
 };
 
-const PROVE: Usage = Usage {
-    name: "prove",
-    about: "Makes a proof",
-    second: Some(("VALUES", "what the steps send, in TOML")),
+const VALUES: Word = Word {
+    name: "VALUES",
+    help: "what the steps send, in TOML",
+    action: ArgAction::Set,
+    is_global: false,
 };
 
-const VERIFY: Usage = Usage {
-    name: "verify",
-    about: "Verifies a proof",
-    second: Some(("PROOF", "the proof")),
+const PROOF: Word = Word {
+    name: "PROOF",
+    help: "the proof",
+    action: ArgAction::Set,
+    is_global: false,
 };
 
-const EXPLAIN: Usage = Usage {
-    name: "explain",
-    about: "Shows what each step of a proof read, fed and drew",
-    second: Some(("PROOF", "the proof")),
+const CARRIED: Word = Word {
+    name: "carried",
+    help: "A witness that is carried beside the proof, once for each `observe_pow`",
+    action: ArgAction::Append,
+    is_global: false,
 };
 
-const RUST: Usage = Usage {
-    name: "rust",
-    about: "Prints the suite, the steps and the separator as code",
-    second: None,
+const WHOLE: Word = Word {
+    name: "whole",
+    help: "Shows long cells of the table whole",
+    action: ArgAction::SetTrue,
+    is_global: false,
 };
+
+const JSON: Word = Word {
+    name: "json",
+    help: "Answers in JSON",
+    action: ArgAction::SetTrue,
+    is_global: true,
+};
+
+const HEX: Word = Word {
+    name: "hex",
+    help: "Reads and writes proofs in hexadecimal",
+    action: ArgAction::SetTrue,
+    is_global: true,
+};
+
+const PROGRAM: Usage = Usage {
+    name: "tealmuze",
+    about: "Plays the transcript of a protocol that stands in a file",
+    words: &[JSON, HEX],
+};
+
+const COMMANDS: [Usage; 5] = [
+    Usage {
+        name: "pattern",
+        about: "Shows the pattern, its digest and the seed",
+        words: &[FILE],
+    },
+    Usage {
+        name: "prove",
+        about: "Makes a proof",
+        words: &[FILE, VALUES],
+    },
+    Usage {
+        name: "verify",
+        about: "Verifies a proof",
+        words: &[FILE, PROOF, CARRIED],
+    },
+    Usage {
+        name: "explain",
+        about: "Shows what each step of a proof read, fed and drew",
+        words: &[FILE, PROOF, CARRIED, WHOLE],
+    },
+    Usage {
+        name: "rust",
+        about: "Prints the suite, the steps and the separator as code",
+        words: &[FILE],
+    },
+];
 
 fn grammar<'a>(alloc: Global) -> Result<clap::Command<'a>, AllocError> {
-    let program = with(program(alloc)?, of_file(alloc, &PATTERN))?;
-    let program = with(program, of_file(alloc, &PROVE))?;
-    let program = with(program, of_proof(alloc, &VERIFY))?;
-    let program = with(program, of_table(alloc, &EXPLAIN))?;
-    with(program, of_file(alloc, &RUST))
-}
-
-// The program with one more command, if there is memory for it.
-fn with<'a>(
-    program: clap::Command<'a>,
-    command: Result<clap::Command<'a>, AllocError>,
-) -> Result<clap::Command<'a>, AllocError> {
-    program.subcommand(command?)
-}
-
-// What stands before or after any command.
-fn program<'a>(alloc: Global) -> Result<clap::Command<'a>, AllocError> {
-    clap::Command::new(alloc, "tealmuze")
-        .about("Plays the transcript of a protocol that stands in a file")
-        .subcommand_required(true)
-        .arg(flag(alloc, "json", "Answers in JSON"))?
-        .arg(flag(alloc, "hex", "Reads and writes proofs in hexadecimal"))
-}
-
-// A command that is about a protocol.
-fn of_file<'a>(alloc: Global, usage: &Usage) -> Result<clap::Command<'a>, AllocError> {
-    let command = clap::Command::new(alloc, usage.name)
-        .about(usage.about)
-        .arg(path(alloc, "FILE", "the protocol, in TOML"))?;
-    match usage.second {
-        Some((name, help)) => command.arg(path(alloc, name, help)),
-        None => Ok(command),
+    let mut commands = Vec::new(alloc);
+    for usage in &COMMANDS {
+        commands.push(built(alloc, usage)?)?;
     }
+    built(alloc, &PROGRAM)?
+        .subcommand_required(true)
+        .subcommands(commands)
 }
 
-// A command that is about a proof.
-fn of_proof<'a>(alloc: Global, usage: &Usage) -> Result<clap::Command<'a>, AllocError> {
-    of_file(alloc, usage)?.arg(carried(alloc))
+fn built<'a>(alloc: Global, usage: &Usage) -> Result<clap::Command<'a>, AllocError> {
+    let arguments = arguments(alloc, usage.words)?;
+    clap::Command::new(alloc, usage.name)
+        .about(usage.about)
+        .args(arguments)
 }
 
-// A command that shows a table about a proof.
-fn of_table<'a>(alloc: Global, usage: &Usage) -> Result<clap::Command<'a>, AllocError> {
-    let whole = Arg::new(alloc, "whole")
-        .long("whole")
-        .action(ArgAction::SetTrue)
-        .help("Shows long cells of the table whole");
-    of_proof(alloc, usage)?.arg(whole)
+fn arguments<'a>(alloc: Global, words: &[Word]) -> Result<Vec<Arg<'a>>, AllocError> {
+    let mut arguments = Vec::new(alloc);
+    for word in words {
+        arguments.push(argument(alloc, word))?;
+    }
+    Ok(arguments)
 }
 
-// A file that a command needs.
-fn path<'a>(alloc: Global, name: &'a str, help: &'a str) -> Arg<'a> {
-    Arg::new(alloc, name)
-        .required(true)
-        .action(ArgAction::Set)
-        .help(help)
-}
-
-fn flag<'a>(alloc: Global, name: &'a str, help: &'a str) -> Arg<'a> {
-    Arg::new(alloc, name)
-        .long(name)
-        .global(true)
-        .action(ArgAction::SetTrue)
-        .help(help)
-}
-
-fn carried<'a>(alloc: Global) -> Arg<'a> {
-    Arg::new(alloc, "carried")
-        .long("carried")
-        .action(ArgAction::Append)
-        .value_parser(clap::value_parser!(u64))
-        .help("A witness that is carried beside the proof, once for each `observe_pow`")
+fn argument<'a>(alloc: Global, word: &Word) -> Arg<'a> {
+    let argument = Arg::new(alloc, word.name)
+        .help(word.help)
+        .action(word.action)
+        .global(word.is_global);
+    match word.action {
+        ArgAction::Set => argument.required(true),
+        ArgAction::Append => argument
+            .long(word.name)
+            .value_parser(clap::value_parser!(u64)),
+        _ => argument.long(word.name),
+    }
 }
 
 /// What a command line asks for that was read.
 pub fn request_of<'a>(alloc: Global, matches: &ArgMatches<'a>) -> Result<Request<'a>> {
     let (name, matches) = matches.subcommand().context("no command")?;
-    let mut carried = Vec::new(alloc);
-    if let Some(numbers) = matches.get_many::<u64>("carried") {
-        for number in numbers {
-            carried.push(number?)?;
-        }
-    }
     let (command, second) = match name {
         "pattern" => (Command::Pattern, None),
         "prove" => (Command::Prove, matches.get_str("VALUES")),
@@ -176,6 +197,17 @@ pub fn request_of<'a>(alloc: Global, matches: &ArgMatches<'a>) -> Result<Request
         json: matches.get_flag("json"),
         hex: matches.get_flag("hex"),
         whole: matches.get_flag("whole"),
-        carried,
+        carried: carried(alloc, matches)?,
     })
+}
+
+// The witnesses that are carried beside the proof.
+fn carried(alloc: Global, matches: &ArgMatches<'_>) -> Result<Vec<u64>> {
+    let mut carried = Vec::new(alloc);
+    if let Some(numbers) = matches.get_many::<u64>("carried") {
+        for number in numbers {
+            carried.push(number?)?;
+        }
+    }
+    Ok(carried)
 }

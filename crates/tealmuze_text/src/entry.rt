@@ -12,13 +12,15 @@ const PARSE_ERROR: &str = "TOML parse error at ";
 pub fn parse_table(alloc: Global, text: &str) -> Result<Table> {
     match toml::table_from_str(alloc, text) {
         Ok(table) => Ok(table),
-        Err(error) => {
-            let told = format!(in alloc; "{error}")?;
-            match told.trim_end().split_once('\n') {
-                Some((place, what)) => bail!("{}: {what}", place.trim_start_matches(PARSE_ERROR)),
-                None => bail!("{told}"),
-            }
-        }
+        Err(error) => refuse(format!(in alloc; "{error}")?.as_str()),
+    }
+}
+
+// Refuses a text of which the reader of TOML says this: the place on a line, and what is wrong below it.
+fn refuse(told: &str) -> Result<Table> {
+    match told.trim_end().split_once('\n') {
+        Some((place, what)) => bail!("{}: {what}", place.trim_start_matches(PARSE_ERROR)),
+        None => bail!("{told}"),
     }
 }
 
@@ -96,7 +98,7 @@ impl<'a> Entry<'a> {
     /// Refuses the table where it has a key that is none of these.
     pub fn only(&self, keys: &[&str]) -> Result<()> {
         for key in self.table.keys() {
-            if !keys.iter().any(|known| *known == key.as_str()) {
+            if !(&*keys).contains(&key.as_str()) {
                 bail!("unknown key `{key}`");
             }
         }

@@ -2,11 +2,11 @@
 use crate::json::{Object, ToJson, list, optional};
 use crate::line::{Cut, LABEL_BYTES};
 use crate::refusal::RefusalShown;
-use crate::shown::Shown;
+use crate::shown::{SeedLine, Shown};
 use crate::table::{COLUMNS, Line, layout};
 use anyhow::Result;
-use std::alloc::Global;
-use std::fmt::Display;
+use std::alloc::{AllocError, Global};
+use std::fmt;
 
 /// What a step did.
 #[derive(Drop)]
@@ -27,6 +27,21 @@ pub struct StepShown<'a> {
     pub fed: Option<String>,
     /// What it drew.
     pub challenge: Option<Shown>,
+}
+
+impl StepShown<'_> {
+    fn cells(&self) -> [Cell<'_>; COLUMNS] {
+        [
+            Cell::Number(self.step),
+            Cell::Text(self.kind),
+            Cell::Label(self.label),
+            Cell::Number(self.offset),
+            Cell::Text(self.read.as_str()),
+            Cell::Value(&self.value),
+            Cell::Digits(&self.fed),
+            Cell::Value(&self.challenge),
+        ]
+    }
 }
 
 impl ToJson for StepShown<'_> {
@@ -69,34 +84,32 @@ impl ToJson for ExplainedShown<'_> {
 }
 
 // What stands above the columns.
-const HEAD: [&str; COLUMNS] = [
-    "step",
-    "type",
-    "label",
-    "byte",
-    "read",
-    "value",
-    "fed",
-    "challenge",
+const HEAD: [Cell<'static>; COLUMNS] = [
+    Cell::Text("step"),
+    Cell::Text("type"),
+    Cell::Text("label"),
+    Cell::Text("byte"),
+    Cell::Text("read"),
+    Cell::Text("value"),
+    Cell::Text("fed"),
+    Cell::Text("challenge"),
 ];
 
 impl ExplainedShown<'_> {
     /// The seed, a table of the steps, and what the end was, of a proof of so many bytes. Long cells are cut, if they are
     /// not to be whole.
     pub fn text(&self, alloc: Global, len: usize, whole: bool) -> Result<String> {
+        let seed = SeedLine { seed: &self.seed };
         let table = self.table(alloc, whole)?;
         let end = self.end(alloc, len)?;
-        match &self.seed {
-            Some(seed) => Ok(format!(in alloc; "seed {seed}\n{table}{end}")?),
-            None => Ok(format!(in alloc; "{table}{end}")?),
-        }
+        Ok(format!(in alloc; "{seed}{table}{end}")?)
     }
 
     fn table(&self, alloc: Global, whole: bool) -> Result<String> {
-        let mut lines: Vec<Line> = Vec::new(alloc);
-        lines.push(HEAD.try_map(|text| String::from_str(alloc, text))?)?;
+        let mut lines = Vec::new(alloc);
+        lines.push(line_of(alloc, HEAD, whole)?)?;
         for row in &self.steps {
-            lines.push(line_of(alloc, row, whole)?)?;
+            lines.push(line_of(alloc, row.cells(), whole)?)?;
         }
         layout(alloc, lines.as_slice())
     }
@@ -109,40 +122,46 @@ impl ExplainedShown<'_> {
     }
 }
 
+// What a cell of the table shows.
+#[derive(Clone, Copy)]
+enum Cell<'a> {
+    Number(usize),
+    Text(&'a str),
+    Label(&'a str),
+    Digits(&'a Option<String>),
+    Value(&'a Option<Shown>),
+}
+
+impl fmt::Display for Cell<'_> {
+    fn fmt<W: fmt::Write>(&self, f: &mut fmt::Formatter<W>) -> fmt::Result {
+        match self {
+            Cell::Number(number) => write!(f, "{number}"),
+            Cell::Text(text) | Cell::Label(text) => f.write_str(text),
+            Cell::Digits(Some(digits)) => f.write_str(digits.as_str()),
+            Cell::Value(Some(value)) => write!(f, "{value}"),
+            _ => Ok(()),
+        }
+    }
+}
+
 // How many bytes of a cell are shown at most.
 const CELL_BYTES: usize = 40;
 
-fn line_of(alloc: Global, row: &StepShown<'_>, whole: bool) -> Result<Line> {
-    let (most, most_of_label) = if whole {
-        (usize::MAX, usize::MAX)
-    } else {
-        (CELL_BYTES, LABEL_BYTES)
-    };
-    Ok([
-        text(alloc, &row.step, most)?,
-        text(alloc, &row.kind, most)?,
-        text(alloc, &row.label, most_of_label)?,
-        text(alloc, &row.offset, most)?,
-        text(alloc, &row.read, most)?,
-        text_or_none(alloc, &row.value, most)?,
-        text_or_none(alloc, &row.fed, most)?,
-        text_or_none(alloc, &row.challenge, most)?,
-    ])
+fn line_of(alloc: Global, cells: [Cell<'_>; COLUMNS], whole: bool) -> Result<Line> {
+    let line = cells.try_map(|cell| {
+        let most = match cell {
+            _ if whole => usize::MAX,
+            Cell::Label(_) => LABEL_BYTES,
+            _ => CELL_BYTES,
+        };
+        text(alloc, cell, most)
+    });
+    Ok(line?)
 }
 
-// The cell of a value, of at most so many bytes.
-fn text<T: Display>(alloc: Global, shown: &T, most: usize) -> Result<String> {
-    let text = format!(in alloc; "{shown}")?;
-    let cut = Cut {
-        text: text.as_str(),
-        most,
-    };
-    Ok(format!(in alloc; "{cut}")?)
-}
-
-fn text_or_none<T: Display>(alloc: Global, shown: &Option<T>, most: usize) -> Result<String> {
-    match shown {
-        Some(shown) => text(alloc, shown, most),
-        None => Ok(String::new(alloc)),
-    }
+// The text of a cell, of at most so many bytes.
+fn text(alloc: Global, cell: Cell<'_>, most: usize) -> Result<String, AllocError> {
+    let text = format!(in alloc; "{cell}")?;
+    let text = text.as_str();
+    format!(in alloc; "{}", Cut { text, most })
 }

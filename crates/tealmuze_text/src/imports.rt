@@ -1,8 +1,30 @@
 // The imports of a printed file.
-use anyhow::Result;
+use std::fmt;
 
 // A name that code may import, and what stands in code that uses it.
 type Import = (&'static str, &'static str);
+
+// A module, and its names. They are imported where the code uses at least and at most so many of them.
+type Group = (&'static str, (usize, usize), &'static [Import]);
+
+const SOME: (usize, usize) = (1, usize::MAX);
+
+const ONE: (usize, usize) = (1, 1);
+
+const SEVERAL: (usize, usize) = (2, usize::MAX);
+
+// In the order that the formatter keeps: a name before a module, and a list after it.
+const GROUPS: [Group; 9] = [
+    ("p3_challenger", ONE, &OF_CHALLENGERS),
+    ("p3_challenger::fs::script", SOME, &OF_SCRIPTS),
+    ("p3_challenger::fs", SOME, &OF_TRANSCRIPTS),
+    ("p3_challenger", SEVERAL, &OF_CHALLENGERS),
+    ("p3_field", SOME, &OF_FIELDS),
+    ("p3_keccak", SOME, &OF_KECCAK),
+    ("p3_poseidon2", SOME, &OF_POSEIDON2),
+    ("p3_symmetric", SOME, &OF_HASHES),
+    ("std::alloc", SOME, &OF_MEMORY),
+];
 
 const OF_SCRIPTS: [Import; 6] = [
     ("AcceptAll", "= AcceptAll;"),
@@ -61,46 +83,63 @@ const OF_HASHES: [Import; 2] = [("Hash", " Hash<"), ("Sha256Hasher", "Sha256Hash
 
 const OF_MEMORY: [Import; 2] = [("AllocError", "AllocError>"), ("Global", "Global")];
 
-/// Writes the imports of this code, in the order that the formatter keeps: a name before a module, and a list after it.
-pub fn write_imports(text: &mut String, code: &str) -> Result<()> {
-    let (alone, list) = match used(code, &OF_CHALLENGERS) {
-        1 => (&OF_CHALLENGERS[..], &[][..]),
-        _ => (&[][..], &OF_CHALLENGERS[..]),
+/// The imports of this code.
+#[derive(Clone, Copy)]
+pub struct Imports<'a> {
+    /// The code.
+    pub code: &'a str,
+}
+
+impl fmt::Display for Imports<'_> {
+    fn fmt<W: fmt::Write>(&self, f: &mut fmt::Formatter<W>) -> fmt::Result {
+        for group in &GROUPS {
+            write_group(f, self.code, group)?;
+        }
+        Ok(())
+    }
+}
+
+fn write_group<W: fmt::Write>(f: &mut fmt::Formatter<W>, code: &str, group: &Group) -> fmt::Result {
+    let (path, (least, most), names) = group;
+    let count = count(code, *names);
+    if count < *least || count > *most {
+        return Ok(());
+    }
+    let used = Used {
+        code,
+        names: *names,
     };
-    write_import(text, code, "p3_challenger", alone)?;
-    write_import(text, code, "p3_challenger::fs::script", &OF_SCRIPTS)?;
-    write_import(text, code, "p3_challenger::fs", &OF_TRANSCRIPTS)?;
-    write_import(text, code, "p3_challenger", list)?;
-    write_import(text, code, "p3_field", &OF_FIELDS)?;
-    write_import(text, code, "p3_keccak", &OF_KECCAK)?;
-    write_import(text, code, "p3_poseidon2", &OF_POSEIDON2)?;
-    write_import(text, code, "p3_symmetric", &OF_HASHES)?;
-    write_import(text, code, "std::alloc", &OF_MEMORY)
+    match count {
+        1 => writeln!(f, "use {path}::{used};"),
+        _ => writeln!(f, "use {path}::{{{used}}};"),
+    }
+}
+
+// Which of these names the code uses, with commas between.
+#[derive(Clone, Copy)]
+struct Used<'a> {
+    code: &'a str,
+    names: &'static [Import],
+}
+
+impl fmt::Display for Used<'_> {
+    fn fmt<W: fmt::Write>(&self, f: &mut fmt::Formatter<W>) -> fmt::Result {
+        let mut has_begun = false;
+        for (name, mark) in self.names {
+            if self.code.contains(*mark) {
+                let before = if has_begun { ", " } else { "" };
+                write!(f, "{before}{name}")?;
+                has_begun = true;
+            }
+        }
+        Ok(())
+    }
 }
 
 // How many of these names the code uses.
-fn used(code: &str, imports: &[Import]) -> usize {
-    imports
+fn count(code: &str, names: &[Import]) -> usize {
+    names
         .iter()
         .filter(|(_, mark)| code.contains(*mark))
         .count()
-}
-
-// Writes which of these names the code uses, where it uses one.
-fn write_import(text: &mut String, code: &str, path: &str, imports: &[Import]) -> Result<()> {
-    let count = used(code, imports);
-    if count == 0 {
-        return Ok(());
-    }
-    let (open, close) = if count == 1 { ("", "") } else { ("{", "}") };
-    write!(text, "use {path}::{open}")?;
-    let begun = text.len();
-    for (name, mark) in imports {
-        if code.contains(*mark) {
-            let before = if text.len() == begun { "" } else { ", " };
-            write!(text, "{before}{name}")?;
-        }
-    }
-    writeln!(text, "{close};")?;
-    Ok(())
 }

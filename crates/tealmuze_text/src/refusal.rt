@@ -3,6 +3,7 @@ use crate::json::{Object, ToJson};
 use crate::line::{OneLine, StepOnLine};
 use anyhow::Result;
 use std::alloc::Global;
+use std::fmt;
 
 /// The step at which values or a proof are refused, and why.
 #[derive(Drop)]
@@ -22,25 +23,22 @@ pub struct RefusalShown<'a> {
 impl RefusalShown<'_> {
     /// The refusal as a line of text.
     pub fn line(&self, alloc: Global) -> Result<String> {
-        let place = self.place(alloc)?;
-        let reason = OneLine {
-            text: self.reason.as_str(),
-        };
-        match self.byte {
-            Some(byte) => Ok(format!(in alloc; "refused at {place}, byte {byte}: {reason}\n")?),
-            None => Ok(format!(in alloc; "refused at {place}: {reason}\n")?),
-        }
+        Ok(format!(in alloc; "refused at {self}\n")?)
     }
+}
 
-    fn place(&self, alloc: Global) -> Result<String> {
+impl fmt::Display for RefusalShown<'_> {
+    fn fmt<W: fmt::Write>(&self, f: &mut fmt::Formatter<W>) -> fmt::Result {
         let step = self.step;
         match (self.kind, self.label) {
-            (Some(kind), Some(label)) => {
-                let place = StepOnLine { step, kind, label };
-                Ok(format!(in alloc; "{place}")?)
-            }
-            _ => Ok(String::from_str(alloc, "the end")?),
+            (Some(kind), Some(label)) => write!(f, "{}", StepOnLine { step, kind, label })?,
+            _ => f.write_str("the end")?,
         }
+        if let Some(byte) = self.byte {
+            write!(f, ", byte {byte}")?;
+        }
+        let text = self.reason.as_str();
+        write!(f, ": {}", OneLine { text })
     }
 }
 

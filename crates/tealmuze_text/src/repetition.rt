@@ -39,18 +39,22 @@ pub fn unrolled<'a>(alloc: Global, list: &'a [Value]) -> Result<Vec<Listed<'a>>>
     let mut steps = Vec::new(alloc);
     for (at, value) in list.iter().enumerate() {
         let place = Place { at, inside: None };
-        let entry = Entry::of(value).context(place)?;
-        if entry.has(REPEAT) {
-            add_repeated(&mut steps, at, entry).context(place)?;
-        } else {
-            add(&mut steps, Listed { entry, place }).context(place)?;
-        }
+        add_once_or_more(&mut steps, place, value).context(place)?;
     }
     Ok(steps)
 }
 
 /// The key of how many times steps stand.
 pub const REPEAT: &str = "repeat";
+
+// Adds a step, or the steps of a table that says how many times they stand.
+fn add_once_or_more<'a>(steps: &mut Vec<Listed<'a>>, place: Place, value: &'a Value) -> Result<()> {
+    let entry = Entry::of(value)?;
+    if entry.has(REPEAT) {
+        return add_repeated(steps, place.at, entry);
+    }
+    add(steps, Listed { entry, place })
+}
 
 // Adds the steps of a table that says how many times they stand.
 fn add_repeated<'a>(steps: &mut Vec<Listed<'a>>, at: usize, entry: Entry<'a>) -> Result<()> {
@@ -71,22 +75,22 @@ fn add_repeated<'a>(steps: &mut Vec<Listed<'a>>, at: usize, entry: Entry<'a>) ->
 
 // Adds the steps of a list that is repeated.
 fn add_all<'a>(steps: &mut Vec<Listed<'a>>, at: usize, list: &'a [Value]) -> Result<()> {
-    for (inside, value) in list.iter().enumerate() {
-        let place = Place {
-            at,
-            inside: Some(inside),
-        };
-        let entry = Entry::of(value).context(format_args!("steps[{inside}]"))?;
-        if entry.has(REPEAT) {
-            bail!("steps[{inside}]: repeat: stands in steps that are repeated");
-        }
-        add(steps, Listed { entry, place }).context(format_args!("steps[{inside}]"))?;
+    for (index, value) in list.iter().enumerate() {
+        let inside = Some(index);
+        add_once(steps, Place { at, inside }, value).context(format_args!("steps[{index}]"))?;
     }
     Ok(())
 }
 
+fn add_once<'a>(steps: &mut Vec<Listed<'a>>, place: Place, value: &'a Value) -> Result<()> {
+    let entry = Entry::of(value)?;
+    if entry.has(REPEAT) {
+        bail!("repeat: stands in steps that are repeated");
+    }
+    add(steps, Listed { entry, place })
+}
+
 fn add<'a>(steps: &mut Vec<Listed<'a>>, step: Listed<'a>) -> Result<()> {
     check_count(steps.len())?;
-    steps.push(step)?;
-    Ok(())
+    Ok(steps.push(step)?)
 }

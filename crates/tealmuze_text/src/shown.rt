@@ -83,3 +83,19 @@ impl fmt::Display for Lines<'_> {
         Ok(())
     }
 }
+
+/// The line of a seed in hexadecimal, where there is one.
+#[derive(Clone, Copy)]
+pub struct SeedLine<'a> {
+    /// The seed.
+    pub seed: &'a Option<String>,
+}
+
+impl fmt::Display for SeedLine<'_> {
+    fn fmt<W: fmt::Write>(&self, f: &mut fmt::Formatter<W>) -> fmt::Result {
+        match self.seed {
+            Some(seed) => writeln!(f, "seed {seed}"),
+            None => Ok(()),
+        }
+    }
+}

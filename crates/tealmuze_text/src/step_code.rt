@@ -5,7 +5,7 @@ use crate::repetition::REPEAT;
 use crate::steps::keys_of;
 use crate::suite_code::{ChallengerCode, FieldCode, SuiteCode};
 use anyhow::{Context, Result};
-use std::alloc::Global;
+use std::alloc::{AllocError, Global};
 use std::fmt;
 use toml::Value;
 
@@ -15,6 +15,31 @@ const FIELD_ON_THE_LINE: usize = 18;
 const SIGNATURE: &str = "/// The steps, in order.
 pub fn steps(alloc: Global) -> Result<Vec<Step<Protocol>>, AllocError> {
 ";
+
+// Where a step stands: the space before each of its lines, and what is around it.
+struct Place {
+    space: &'static str,
+    open: &'static str,
+    close: &'static str,
+}
+
+const LISTED: Place = Place {
+    space: "        ",
+    open: "",
+    close: ",\n",
+};
+
+const PUSHED: Place = Place {
+    space: "    ",
+    open: "steps.push(",
+    close: ")?;\n",
+};
+
+const PUSHED_IN_A_LOOP: Place = Place {
+    space: "        ",
+    open: "steps.push(",
+    close: ")?;\n",
+};
 
 /// Writes the steps that a suite plays.
 #[derive(Clone, Copy)]
@@ -28,169 +53,169 @@ pub struct StepWriter {
 impl StepWriter {
     /// Writes the function that makes the steps of a file: a list, or one after another where the table repeats some.
     pub fn write_steps(&self, text: &mut String, file: Entry<'_>) -> Result<()> {
-        text.push_str(SIGNATURE)?;
         let steps = file.list("steps")?;
         if steps.is_empty() || has_repetition(steps)? {
-            self.write_pushed(text, steps)?;
+            self.write_pushed(text, steps)
         } else {
-            self.write_list(text, steps)?;
+            self.write_list(text, steps)
         }
-        text.push_str("}\n\n")?;
-        Ok(())
     }
 
     fn write_list(&self, text: &mut String, steps: &[Value]) -> Result<()> {
-        text.push_str("    Ok(vec![in alloc;\n")?;
-        for value in steps {
-            text.push_str("        ")?;
-            self.write_step(text, Entry::of(value)?, "        ")?;
-            text.push_str(",\n")?;
-        }
-        text.push_str("    ]?)\n")?;
-        Ok(())
+        write!(text, "{SIGNATURE}    Ok(vec![in alloc;\n")?;
+        self.write_each(text, steps, &LISTED)?;
+        Ok(text.push_str("    ]?)\n}\n\n")?)
     }
 
     fn write_pushed(&self, text: &mut String, steps: &[Value]) -> Result<()> {
-        text.push_str("    let mut steps = Vec::new(alloc);\n")?;
+        write!(text, "{SIGNATURE}    let mut steps = Vec::new(alloc);\n")?;
         for value in steps {
             self.write_once_or_more(text, Entry::of(value)?)?;
         }
-        text.push_str("    Ok(steps)\n")?;
-        Ok(())
+        Ok(text.push_str("    Ok(steps)\n}\n\n")?)
     }
 
     // Writes a step, or a loop where the table says how many times steps stand.
     fn write_once_or_more(&self, text: &mut String, entry: Entry<'_>) -> Result<()> {
         if !entry.has(REPEAT) {
-            return self.write_push(text, entry, "    ");
+            return self.write_step(text, entry, &PUSHED);
         }
-        let times = entry.count(REPEAT)?;
-        writeln!(text, "    for _ in 0..{times} {{")?;
-        for value in entry.list("steps")? {
-            self.write_push(text, Entry::of(value)?, "        ")?;
+        writeln!(text, "    for _ in 0..{} {{", entry.count(REPEAT)?)?;
+        self.write_each(text, entry.list("steps")?, &PUSHED_IN_A_LOOP)?;
+        Ok(text.push_str("    }\n")?)
+    }
+
+    fn write_each(&self, text: &mut String, steps: &[Value], place: &Place) -> Result<()> {
+        for value in steps {
+            self.write_step(text, Entry::of(value)?, place)?;
         }
-        text.push_str("    }\n")?;
         Ok(())
     }
 
-    // Writes that a step is added, with this space before its lines.
-    fn write_push(&self, text: &mut String, entry: Entry<'_>, space: &str) -> Result<()> {
-        write!(text, "{space}steps.push(")?;
-        self.write_step(text, entry, space)?;
-        text.push_str(")?;\n")?;
-        Ok(())
-    }
-
-    // Writes a step, with this space before its further lines.
-    fn write_step(&self, text: &mut String, entry: Entry<'_>, space: &str) -> Result<()> {
+    // Writes a step: on one line, if a short label is all that it has.
+    fn write_step(&self, text: &mut String, entry: Entry<'_>, place: &Place) -> Result<()> {
         let name = entry.text("type")?;
-        let mut fields = Vec::new(self.alloc);
-        for key in keys_of(name)?.iter().skip(1) {
-            fields.push(self.field(entry, name, *key)?)?;
+        let keys = keys_of(name)?;
+        let Place { space, open, close } = place;
+        write!(text, "{space}{open}Step::{} {{", Camel { name })?;
+        if keys.len() == 2 && self.has_short_label(entry)? {
+            write!(text, " label: {:?} }}{close}", entry.text("label")?)?;
+        } else {
+            self.write_fields(text, entry, keys, space)?;
+            write!(text, "\n{space}}}{close}")?;
         }
-        write!(text, "Step::{} {{", Camel { name })?;
-        match &fields[..] {
-            [label] if label.len() <= FIELD_ON_THE_LINE => write!(text, " {label} ")?,
-            fields => {
-                for field in fields {
-                    write!(text, "\n{space}    {field},")?;
-                }
-                write!(text, "\n{space}")?;
-            }
-        }
-        text.push_str("}")?;
         Ok(())
     }
 
-    // A field of a step of this type.
-    fn field(&self, entry: Entry<'_>, name: &str, key: &'static str) -> Result<String> {
-        let alloc = self.alloc;
-        let code = match key {
-            "label" => format!(in alloc; "{:?}", entry.text(key)?)?,
-            "kind" => {
-                let name = entry.text(key)?;
-                format!(in alloc; "Kind::{}", Camel { name })?
-            }
-            "value" => self.value(name, entry.value(key)?)?,
-            "values" => self.values(name, entry.list(key)?)?,
-            _ => format!(in alloc; "{}", entry.number(key)?)?,
-        };
-        Ok(format!(in alloc; "{key}: {code}")?)
+    fn has_short_label(&self, entry: Entry<'_>) -> Result<bool> {
+        let label = entry.text("label")?;
+        Ok(format!(in self.alloc; "label: {label:?}")?.len() <= FIELD_ON_THE_LINE)
     }
 
-    // The value of a step of this type.
-    fn value(&self, name: &str, value: &Value) -> Result<String> {
-        match name {
-            "public_scalar" => self.scalar(number(value)?),
-            "observe_extension" => self.extension(value),
-            _ => self.opaque(value),
+    // Writes the fields at these keys but the first, which is the step's type.
+    fn write_fields(
+        &self,
+        text: &mut String,
+        entry: Entry<'_>,
+        keys: &[&'static str],
+        space: &str,
+    ) -> Result<()> {
+        for key in keys.iter().skip(1) {
+            write!(text, "\n{space}    {key}: ")?;
+            self.write_field(text, entry, *key)?;
+            text.push_str(",")?;
         }
+        Ok(())
     }
 
-    // The list of values of a step of this type.
-    fn values(&self, name: &str, values: &[Value]) -> Result<String> {
-        let alloc = self.alloc;
-        if values.is_empty() {
-            return Ok(String::from_str(alloc, "Vec::new(alloc)")?);
-        }
-        let mut list = Listed::new(alloc);
-        for value in values {
-            match name {
-                "public_scalars" | "public_scalars_bounded" => list.add(self.scalar(number(
-                    value,
-                )?)?)?,
-                _ => list.add(self.extension(value)?)?,
-            }
-        }
-        let elements = list.text;
-        Ok(format!(in alloc; "vec![in alloc; {elements}]?")?)
-    }
-
-    fn scalar(&self, number: u64) -> Result<String> {
-        let field = self.suite.field.name();
-        Ok(format!(in self.alloc; "{field}::from_u64({number})")?)
-    }
-
-    fn extension(&self, coefficients: &Value) -> Result<String> {
-        let mut list = Listed::new(self.alloc);
-        for coefficient in items(coefficients)? {
-            list.add(self.scalar(number(coefficient)?)?)?;
-        }
-        let elements = list.text;
-        match self.suite.field {
-            FieldCode::BabyBear => Ok(format!(in self.alloc; "Coeffs::new([{elements}])")?),
-            FieldCode::Goldilocks => Ok(elements),
-        }
-    }
-
-    // The value that the challenger observes in its own way.
-    fn opaque(&self, value: &Value) -> Result<String> {
-        let alloc = self.alloc;
-        match (self.suite.challenger, self.suite.field) {
-            (ChallengerCode::Bytes(_), _) => Ok(format!(in alloc; "{:?}", bytes(alloc, value)?)?),
-            (ChallengerCode::Elements(_), FieldCode::BabyBear) => {
-                Ok(format!(in alloc; "Hash::from({:?})", bytes(alloc, value)?)?)
-            }
-            _ => self.digest(value.as_str().context("expected a text")?),
-        }
-    }
-
-    // A digest of elements or words, whose numbers are these.
-    fn digest(&self, numbers: &str) -> Result<String> {
-        let mut list = Listed::new(self.alloc);
-        for number in numbers.split_whitespace() {
-            let element = match (self.suite.challenger, self.suite.field) {
-                (ChallengerCode::Elements(_), _) => String::from_str(self.alloc, number)?,
-                (ChallengerCode::PermutedLarger, _) => {
-                    format!(in self.alloc; "Goldilocks::from_u64({number})")?
+    // Writes what a step has at a key.
+    fn write_field(&self, text: &mut String, entry: Entry<'_>, key: &'static str) -> Result<()> {
+        match key {
+            "label" => write!(text, "{:?}", entry.text(key)?)?,
+            "kind" => write!(
+                text,
+                "Kind::{}",
+                Camel {
+                    name: entry.text(key)?
                 }
-                (_, field) => format!(in self.alloc; "{}::from_u64({number})", field.name())?,
-            };
-            list.add(element)?;
+            )?,
+            "value" => self.write_element(text, entry, entry.value(key)?)?,
+            "values" => self.write_elements(text, entry, entry.list(key)?)?,
+            _ => write!(text, "{}", entry.number(key)?)?,
         }
-        let elements = list.text;
-        Ok(format!(in self.alloc; "Hash::from([{elements}])")?)
+        Ok(())
     }
+
+    // Writes the values of a step that has a list of them.
+    fn write_elements(&self, text: &mut String, entry: Entry<'_>, values: &[Value]) -> Result<()> {
+        if values.is_empty() {
+            return Ok(text.push_str("Vec::new(alloc)")?);
+        }
+        text.push_str("vec![in alloc; ")?;
+        for (at, value) in values.iter().enumerate() {
+            text.push_str(comma(at))?;
+            self.write_element(text, entry, value)?;
+        }
+        Ok(text.push_str("]?")?)
+    }
+
+    // Writes a value that both sides of a step know.
+    fn write_element(&self, text: &mut String, entry: Entry<'_>, value: &Value) -> Result<()> {
+        match entry.text("type")? {
+            "public_scalar" | "public_scalars" | "public_scalars_bounded" => {
+                self.write_scalar(text, "", value)
+            }
+            "opaque" => self.write_opaque(text, value),
+            _ => self.write_extension(text, value),
+        }
+    }
+
+    fn write_scalar(&self, text: &mut String, before: &str, value: &Value) -> Result<()> {
+        let (field, number) = (self.suite.field.name(), number(value)?);
+        Ok(write!(text, "{before}{field}::from_u64({number})")?)
+    }
+
+    fn write_extension(&self, text: &mut String, coefficients: &Value) -> Result<()> {
+        let (open, close) = self.suite.field.around_coefficients();
+        text.push_str(open)?;
+        for (at, coefficient) in items(coefficients)?.iter().enumerate() {
+            self.write_scalar(text, comma(at), coefficient)?;
+        }
+        Ok(text.push_str(close)?)
+    }
+
+    // Writes the value that the challenger observes in its own way.
+    fn write_opaque(&self, text: &mut String, value: &Value) -> Result<()> {
+        match (self.suite.challenger, self.suite.field) {
+            (ChallengerCode::Bytes(_), _) => self.write_bytes(text, "", value, ""),
+            (ChallengerCode::Elements(_), FieldCode::BabyBear) => {
+                self.write_bytes(text, "Hash::from(", value, ")")
+            }
+            _ => Ok(self.write_digest(text, value.as_str().context("expected a text")?)?),
+        }
+    }
+
+    // Writes the bytes that a text says, with this code around them.
+    fn write_bytes(&self, text: &mut String, open: &str, value: &Value, close: &str) -> Result<()> {
+        let bytes = bytes(self.alloc, value)?;
+        Ok(write!(text, "{open}{bytes:?}{close}")?)
+    }
+
+    // Writes a digest of elements or words, whose numbers are these.
+    fn write_digest(&self, text: &mut String, numbers: &str) -> Result<(), AllocError> {
+        let (open, close) = self.suite.around_numbers();
+        text.push_str("Hash::from([")?;
+        for (at, number) in numbers.split_whitespace().enumerate() {
+            let before = comma(at);
+            write!(text, "{before}{open}{number}{close}")?;
+        }
+        text.push_str("])")
+    }
+}
+
+// What stands before an element of a list.
+fn comma(at: usize) -> &'static str {
+    if at == 0 { "" } else { ", " }
 }
 
 fn has_repetition(steps: &[Value]) -> Result<bool> {
@@ -200,26 +225,6 @@ fn has_repetition(steps: &[Value]) -> Result<bool> {
         }
     }
     Ok(false)
-}
-
-// Elements with commas between.
-#[derive(Drop)]
-struct Listed {
-    text: String,
-}
-
-impl Listed {
-    fn new(alloc: Global) -> Listed {
-        Listed {
-            text: String::new(alloc),
-        }
-    }
-
-    fn add(&mut self, element: String) -> Result<()> {
-        let before = if self.text.is_empty() { "" } else { ", " };
-        write!(self.text, "{before}{element}")?;
-        Ok(())
-    }
 }
 
 // A name of words with low lines between, as Rust names a type.
@@ -232,13 +237,14 @@ impl fmt::Display for Camel<'_> {
     fn fmt<W: fmt::Write>(&self, f: &mut fmt::Formatter<W>) -> fmt::Result {
         let mut begins = true;
         for letter in self.name.chars() {
-            if letter == '_' {
-                begins = true;
-            } else if begins {
-                f.write_char(letter.to_ascii_uppercase())?;
-                begins = false;
+            let shown = if begins {
+                letter.to_ascii_uppercase()
             } else {
-                f.write_char(letter)?;
+                letter
+            };
+            begins = letter == '_';
+            if !begins {
+                f.write_char(shown)?;
             }
         }
         Ok(())

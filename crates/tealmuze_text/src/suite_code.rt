@@ -27,6 +27,14 @@ impl FieldCode {
             FieldCode::Goldilocks => "Goldilocks",
         }
     }
+
+    /// What stands around the coefficients of an element of the extension.
+    pub fn around_coefficients(self) -> (&'static str, &'static str) {
+        match self {
+            FieldCode::BabyBear => ("Coeffs::new([", "])"),
+            FieldCode::Goldilocks => ("", ""),
+        }
+    }
 }
 
 /// What a challenger is made of. Hash functions stand by their names.
@@ -129,109 +137,182 @@ impl SuiteCode {
         }
     }
 
-    /// Which of these digests there are, as a contract says it, and the names of specifications that the suite's ghost
-    /// members need.
-    pub fn own(self) -> (&'static str, &'static str) {
+    /// What stands around each number of a digest of elements or words.
+    pub fn around_numbers(self) -> (&'static str, &'static str) {
         match (self.challenger, self.field) {
-            (ChallengerCode::Elements(_), FieldCode::BabyBear) => (
-                "digest. AreBytes (values_of digest)",
-                "HashValueLaws.values-injective, Digests.values_of, Reading.AreBytes",
-            ),
-            (ChallengerCode::Elements(_), FieldCode::Goldilocks) => (
-                "digest. AreWords (values_of digest)",
-                "Bytes.AreWords, HashValueLaws.values-injective, Digests.values_of",
-            ),
-            _ => (
-                "_. Unit {0}",
-                "HashValueLaws.values-injective, Digests.values_of",
-            ),
+            (ChallengerCode::Elements(_), _) => ("", ""),
+            (ChallengerCode::Permuted, FieldCode::BabyBear) => ("BabyBear::from_u64(", ")"),
+            _ => ("Goldilocks::from_u64(", ")"),
+        }
+    }
+
+    /// What the suite's ghost members say and need.
+    pub fn ghosts(self) -> Ghosts {
+        match (self.challenger, self.field) {
+            (ChallengerCode::Bytes(_), _) => GHOSTS_OVER_BYTES,
+            (ChallengerCode::Elements(_), FieldCode::BabyBear) => GHOSTS_OF_BYTES,
+            (ChallengerCode::Elements(_), FieldCode::Goldilocks) => GHOSTS_OF_WORDS,
+            _ => GHOSTS_OF_ELEMENTS,
         }
     }
 
     /// The type of the challenger.
-    pub fn challenger_type(self) -> ChallengerType {
-        ChallengerType { suite: self }
+    pub fn challenger_type(self) -> Around {
+        let (before, name, after) = match (self.challenger, self.field) {
+            (ChallengerCode::Bytes(hash), _) => ("HashChallenger<u8, ", hash, ", 32>"),
+            (ChallengerCode::Elements(hash), FieldCode::BabyBear) => (
+                "SerializingChallenger32<BabyBear, HashChallenger<u8, ",
+                hash,
+                ", 32>>",
+            ),
+            (ChallengerCode::Elements(hash), FieldCode::Goldilocks) => (
+                "SerializingChallenger64<Goldilocks, HashChallenger<u8, ",
+                hash,
+                ", 32>>",
+            ),
+            (ChallengerCode::Permuted, FieldCode::BabyBear) => (
+                "DuplexChallenger<BabyBear, ",
+                "Poseidon2BabyBear16",
+                ", 16, 8>",
+            ),
+            (ChallengerCode::Permuted, FieldCode::Goldilocks) => (
+                "DuplexChallenger<Goldilocks, ",
+                "Poseidon2Goldilocks8",
+                ", 8, 4>",
+            ),
+            (ChallengerCode::PermutedLarger, _) => (
+                "MultiField32Challenger<BabyBear, Goldilocks, ",
+                "Poseidon2Goldilocks8",
+                ", 8, 4>",
+            ),
+        };
+        Around {
+            before,
+            name,
+            after,
+        }
     }
 
     /// The function that makes a challenger that observed nothing.
-    pub fn new_challenger(self) -> NewChallenger {
-        NewChallenger { suite: self }
-    }
-}
-
-/// The type of a challenger.
-#[derive(Clone, Copy)]
-pub struct ChallengerType {
-    suite: SuiteCode,
-}
-
-impl fmt::Display for ChallengerType {
-    fn fmt<W: fmt::Write>(&self, f: &mut fmt::Formatter<W>) -> fmt::Result {
-        match (self.suite.challenger, self.suite.field) {
-            (ChallengerCode::Bytes(hash), _) => write!(f, "HashChallenger<u8, {hash}, 32>"),
-            (ChallengerCode::Elements(hash), FieldCode::BabyBear) => {
-                write!(
-                    f,
-                    "SerializingChallenger32<BabyBear, HashChallenger<u8, {hash}, 32>>"
-                )
-            }
-            (ChallengerCode::Elements(hash), FieldCode::Goldilocks) => {
-                write!(
-                    f,
-                    "SerializingChallenger64<Goldilocks, HashChallenger<u8, {hash}, 32>>"
-                )
-            }
-            (ChallengerCode::Permuted, FieldCode::BabyBear) => {
-                f.write_str("DuplexChallenger<BabyBear, Poseidon2BabyBear16, 16, 8>")
-            }
-            (ChallengerCode::Permuted, FieldCode::Goldilocks) => {
-                f.write_str("DuplexChallenger<Goldilocks, Poseidon2Goldilocks8, 8, 4>")
-            }
-            (ChallengerCode::PermutedLarger, _) => f.write_str(
-                "MultiField32Challenger<BabyBear, Goldilocks, Poseidon2Goldilocks8, 8, 4>",
-            ),
-        }
-    }
-}
-
-/// The function that makes a challenger that observed nothing.
-#[derive(Clone, Copy)]
-pub struct NewChallenger {
-    suite: SuiteCode,
-}
-
-// Of what is drawn by rejection, a challenger tries no more than so many candidates in a row.
-const DRAW_LIMIT: u64 = 1000;
-
-impl fmt::Display for NewChallenger {
-    fn fmt<W: fmt::Write>(&self, f: &mut fmt::Formatter<W>) -> fmt::Result {
-        let permutation = match self.suite.field {
-            FieldCode::BabyBear => "default_babybear_poseidon2_16()",
-            FieldCode::Goldilocks => "default_goldilocks_poseidon2_8()",
+    pub fn new_challenger(self) -> Around {
+        let (before, after) = match self.challenger {
+            ChallengerCode::Bytes(_) => NEW_OVER_BYTES,
+            ChallengerCode::Elements(_) => NEW_OVER_ELEMENTS,
+            ChallengerCode::Permuted => NEW_PERMUTED,
+            ChallengerCode::PermutedLarger => NEW_PERMUTED_LARGER,
         };
-        match self.suite.challenger {
-            ChallengerCode::Bytes(hash) => {
-                f.write_str("pub fn challenger(alloc: Global) -> Challenger {\n")?;
-                writeln!(f, "    HashChallenger::new(Vec::new(alloc), {hash})\n}}")
-            }
-            ChallengerCode::Elements(hash) => {
-                f.write_str("pub fn challenger(alloc: Global) -> Challenger {\n")?;
-                writeln!(
-                    f,
-                    "    let inner = HashChallenger::new(Vec::new(alloc), {hash});"
-                )?;
-                writeln!(f, "    Challenger::new(inner, {DRAW_LIMIT})\n}}")
-            }
-            ChallengerCode::Permuted => {
-                f.write_str("pub fn challenger() -> Challenger {\n")?;
-                writeln!(f, "    Challenger::new({permutation}, {DRAW_LIMIT})\n}}")
-            }
-            ChallengerCode::PermutedLarger => {
-                f.write_str(
-                    "pub fn challenger() -> Result<Challenger, MultiField32ChallengerError> {\n",
-                )?;
-                f.write_str("    Challenger::new(default_goldilocks_poseidon2_8())\n}\n")
-            }
+        let name = match (self.challenger, self.field) {
+            (ChallengerCode::Bytes(hash) | ChallengerCode::Elements(hash), _) => hash,
+            (ChallengerCode::Permuted, FieldCode::BabyBear) => "default_babybear_poseidon2_16",
+            _ => "default_goldilocks_poseidon2_8",
+        };
+        Around {
+            before,
+            name,
+            after,
         }
     }
 }
+
+/// A name, and what stands around it.
+#[derive(Clone, Copy)]
+pub struct Around {
+    before: &'static str,
+    name: &'static str,
+    after: &'static str,
+}
+
+impl fmt::Display for Around {
+    fn fmt<W: fmt::Write>(&self, f: &mut fmt::Formatter<W>) -> fmt::Result {
+        write!(f, "{}{}{}", self.before, self.name, self.after)
+    }
+}
+
+// The functions that make a challenger, around the name of its hash function or permutation. Of what is drawn by rejection,
+// a challenger tries no more than 1000 candidates in a row.
+
+const NEW_OVER_BYTES: (&str, &str) = (
+    "pub fn challenger(alloc: Global) -> Challenger {
+    HashChallenger::new(Vec::new(alloc), ",
+    ")
+}
+",
+);
+
+const NEW_OVER_ELEMENTS: (&str, &str) = (
+    "pub fn challenger(alloc: Global) -> Challenger {
+    let inner = HashChallenger::new(Vec::new(alloc), ",
+    ");
+    Challenger::new(inner, 1000)
+}
+",
+);
+
+const NEW_PERMUTED: (&str, &str) = (
+    "pub fn challenger() -> Challenger {
+    Challenger::new(",
+    "(), 1000)
+}
+",
+);
+
+const NEW_PERMUTED_LARGER: (&str, &str) = (
+    "pub fn challenger() -> Result<Challenger, MultiField32ChallengerError> {
+    Challenger::new(",
+    "())
+}
+",
+);
+
+/// What ghost members of a suite say.
+#[derive(Clone, Copy)]
+pub struct Ghosts {
+    /// The specifications that they import.
+    pub uses: &'static str,
+    /// Which values of the digest's type there are.
+    pub own: &'static str,
+    /// The alphabet and the clones.
+    pub others: &'static str,
+}
+
+const GHOSTS_OVER_BYTES: Ghosts = Ghosts {
+    uses: "    ghost use Rattle.std.specs.{Prelude.{◌≡◌, length}, List.each_same};
+",
+    own: "values. length values ≡ 32",
+    others: "    ghost alphabet = { tt };
+
+    ghost clones = { λ values copy told. each_same values copy told.whole };
+}
+",
+};
+
+const GHOSTS_OF_BYTES: Ghosts = Ghosts {
+    uses: "    ghost use Rattle.std.{proofs.Common.lit<, specs.List.each_same};
+    ghost use Rattle.p3_challenger.specs.{HashValueLaws.values-injective, Digests.values_of, Reading.AreBytes};
+",
+    own: "digest. AreBytes (values_of digest)",
+    others: GHOSTS_OVER_ELEMENTS,
+};
+
+const GHOSTS_OF_WORDS: Ghosts = Ghosts {
+    uses: "    ghost use Rattle.std.{proofs.Common.lit<, specs.List.each_same};
+    ghost use Rattle.p3_challenger.specs.{Bytes.AreWords, HashValueLaws.values-injective, Digests.values_of};
+",
+    own: "digest. AreWords (values_of digest)",
+    others: GHOSTS_OVER_ELEMENTS,
+};
+
+const GHOSTS_OF_ELEMENTS: Ghosts = Ghosts {
+    uses: "    ghost use Rattle.std.{proofs.Common.lit<, specs.List.each_same};
+    ghost use Rattle.p3_challenger.specs.{HashValueLaws.values-injective, Digests.values_of};
+",
+    own: "_. Unit {0}",
+    others: GHOSTS_OVER_ELEMENTS,
+};
+
+const GHOSTS_OVER_ELEMENTS: &str = "    ghost alphabet = { lit< tt };
+
+    ghost clones = { λ digest copy told. values-injective copy digest
+        (each_same (values_of digest) (values_of copy) told.whole) };
+}
+";
