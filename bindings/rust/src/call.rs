@@ -97,9 +97,42 @@ fn unread() -> Error {
     Error::Malformed(String::from("an answer that is none"))
 }
 
-// How many coefficients an element of the extension has.
-fn degree(_protocol: &Protocol) -> usize {
-    4
+// What an answer tells of a proof that was accepted.
+fn verified(protocol: &Protocol, answer: &[u8]) -> Result<Verified, Error> {
+    let mut from = Reader {
+        left: told(answer)?,
+        degree: protocol.degree(),
+    };
+    (|| {
+        let received = from.list(Reader::value)?;
+        let challenges = from.list(Reader::challenge)?;
+        Some(Verified {
+            received,
+            challenges,
+        })
+    })()
+    .ok_or_else(unread)
+}
+
+// What an answer tells of values that were proved.
+fn proved(protocol: &Protocol, answer: &[u8]) -> Result<Proved, Error> {
+    let mut from = Reader {
+        left: told(answer)?,
+        degree: protocol.degree(),
+    };
+    (|| {
+        let proof = from.counted()?;
+        let witnesses = from.list(Reader::number)?;
+        let carried = from.list(Reader::number)?;
+        let challenges = from.list(Reader::challenge)?;
+        Some(Proved {
+            proof,
+            witnesses,
+            carried,
+            challenges,
+        })
+    })()
+    .ok_or_else(unread)
 }
 
 /// Verifies a proof of a protocol, with the witnesses that the caller carries to its `ObservePow` steps.
@@ -121,19 +154,7 @@ pub fn verify(protocol: &Protocol, proof: &[u8], carried: &[u64]) -> Result<Veri
             )
         }
     })?;
-    let mut from = Reader {
-        left: told(&answer)?,
-        degree: degree(protocol),
-    };
-    (|| {
-        let received = from.list(Reader::value)?;
-        let challenges = from.list(Reader::challenge)?;
-        Some(Verified {
-            received,
-            challenges,
-        })
-    })()
-    .ok_or_else(unread)
+    verified(protocol, &answer)
 }
 
 /// Proves a protocol with the values that its steps send, in order. Witnesses are found.
@@ -153,21 +174,5 @@ pub fn prove(protocol: &Protocol, values: &[Value]) -> Result<Proved, Error> {
             )
         }
     })?;
-    let mut from = Reader {
-        left: told(&answer)?,
-        degree: degree(protocol),
-    };
-    (|| {
-        let proof = from.counted()?;
-        let witnesses = from.list(Reader::number)?;
-        let carried = from.list(Reader::number)?;
-        let challenges = from.list(Reader::challenge)?;
-        Some(Proved {
-            proof,
-            witnesses,
-            carried,
-            challenges,
-        })
-    })()
-    .ok_or_else(unread)
+    proved(protocol, &answer)
 }

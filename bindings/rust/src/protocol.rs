@@ -11,6 +11,19 @@ pub enum Suite {
     BabyBearBytes = 0,
     /// `SerializingChallenger32` over that; scalars of BabyBear, observed as elements; the extension of degree 4.
     BabyBearElements = 1,
+    /// As [`Suite::BabyBearBytes`], with Keccak-256.
+    BabyBearBytesKeccak = 2,
+    /// As [`Suite::BabyBearElements`], with Keccak-256.
+    BabyBearElementsKeccak = 3,
+    /// `SerializingChallenger64` over a `HashChallenger` of bytes with SHA-256; scalars of Goldilocks, observed as
+    /// elements; the field is its own extension.
+    GoldilocksElements = 4,
+    /// As [`Suite::GoldilocksElements`], with Keccak-256.
+    GoldilocksElementsKeccak = 5,
+    /// `DuplexChallenger` of 16 cells of BabyBear, 8 of them the rate, with Poseidon2; the extension of degree 4.
+    BabyBearPoseidon2 = 6,
+    /// `DuplexChallenger` of 8 cells of Goldilocks, 4 of them the rate, with Poseidon2; the field is its own extension.
+    GoldilocksPoseidon2 = 7,
 }
 
 /// What the steps of a container are.
@@ -171,6 +184,19 @@ impl Protocol {
     /// The description.
     pub const fn description(&self) -> &'static [u8] {
         self.description
+    }
+
+    /// How many coefficients an element of the extension has.
+    pub(crate) fn degree(&self) -> usize {
+        let of_goldilocks = [
+            Suite::GoldilocksElements,
+            Suite::GoldilocksElementsKeccak,
+            Suite::GoldilocksPoseidon2,
+        ];
+        match self.description.first() {
+            Some(byte) if of_goldilocks.iter().any(|it| *it as u8 == *byte) => 1,
+            _ => 4,
+        }
     }
 }
 

@@ -9,6 +9,12 @@ fn world(token: &str) -> Option<(Suite, usize)> {
     match token {
         "hash" => Some((Suite::BabyBearBytes, 4)),
         "ser32" => Some((Suite::BabyBearElements, 4)),
+        "ser64" => Some((Suite::GoldilocksElements, 1)),
+        "keccak_hash" => Some((Suite::BabyBearBytesKeccak, 4)),
+        "keccak_ser32" => Some((Suite::BabyBearElementsKeccak, 4)),
+        "keccak_ser64" => Some((Suite::GoldilocksElementsKeccak, 1)),
+        "poseidon2_baby_bear" => Some((Suite::BabyBearPoseidon2, 4)),
+        "poseidon2_goldilocks" => Some((Suite::GoldilocksPoseidon2, 1)),
         _ => None,
     }
 }
@@ -306,5 +312,5 @@ fn rows_of_the_rust_crate() {
             }
         }
     }
-    assert!(played > 50, "{played} rows");
+    assert!(played > 450, "{played} rows");
 }
