@@ -7,12 +7,10 @@
 #![tactic(auto)]
 
 ghost use Rattle.std.specs.Prelude.{length};
-ghost use Rattle.tealmuze_calls.specs.Written.{Answers, BySuite};
+ghost use Rattle.tealmuze_calls.specs.Written.{Answers};
 
-use p3_symmetric::Sha256Hasher;
 use std::alloc::Global;
-use tealmuze_calls::{Calls, prove, tell, verify};
-use test_suites::{HashSuite, Serializing32Suite};
+use tealmuze_calls::{CallsBySuite, Suites, prove, tell, verify};
 
 /// Verifies a proof of the protocol that the description has, with the witnesses that its `observe_pow` steps are
 /// carried.
@@ -29,14 +27,9 @@ pub extern "C" fn tealmuze_verify(
     carried: &[u64],
     answer: &mut [u8],
 ) -> usize
-    ensures { Answers (BySuite
-        (⟦<HashSuite<Sha256Hasher> as Calls>⟧.tells_of_proof 1 proof.now carried.now)
-        (⟦<Serializing32Suite as Calls>⟧.tells_of_proof 1 proof.now carried.now) description.now)
-        (BySuite (⟦<HashSuite<Sha256Hasher> as Calls>⟧.asks_of_proof 1)
-        (⟦<Serializing32Suite as Calls>⟧.asks_of_proof 1) description.now carried.now)
-        (BySuite (⟦<HashSuite<Sha256Hasher> as Calls>⟧.wants_room 1 4 (length proof.now))
-        (⟦<Serializing32Suite as Calls>⟧.wants_room 1 4 (length proof.now)) description.now)
-        answer.old result answer.new }
+    ensures { Answers (⟦<Suites as CallsBySuite>⟧.tells_of_proof proof.now carried.now description.now)
+        (⟦<Suites as CallsBySuite>⟧.asks_of_proof description.now carried.now)
+        (⟦<Suites as CallsBySuite>⟧.wants_room (length proof.now) description.now) answer.old result answer.new }
 {
     let found = verify(alloc, description, proof, carried, answer.len());
     tell(alloc, found, answer)
@@ -54,14 +47,9 @@ pub extern "C" fn tealmuze_prove(
     values: &[u8],
     answer: &mut [u8],
 ) -> usize
-    ensures { Answers (BySuite
-        (⟦<HashSuite<Sha256Hasher> as Calls>⟧.tells_of_values 1 values.now)
-        (⟦<Serializing32Suite as Calls>⟧.tells_of_values 1 values.now) description.now)
-        (BySuite (⟦<HashSuite<Sha256Hasher> as Calls>⟧.asks_of_values 1)
-        (⟦<Serializing32Suite as Calls>⟧.asks_of_values 1) description.now values.now)
-        (BySuite (⟦<HashSuite<Sha256Hasher> as Calls>⟧.wants_room 1 4 (length values.now))
-        (⟦<Serializing32Suite as Calls>⟧.wants_room 1 4 (length values.now)) description.now)
-        answer.old result answer.new }
+    ensures { Answers (⟦<Suites as CallsBySuite>⟧.tells_of_values values.now description.now)
+        (⟦<Suites as CallsBySuite>⟧.asks_of_values description.now values.now)
+        (⟦<Suites as CallsBySuite>⟧.wants_room (length values.now) description.now) answer.old result answer.new }
 {
     let found = prove(alloc, description, values, answer.len());
     tell(alloc, found, answer)

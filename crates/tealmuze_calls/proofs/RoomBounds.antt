@@ -12,7 +12,7 @@ use Rattle.tealmuze_calls.specs.Forms.{number_bytes, counted_bytes, listed_bytes
 use Rattle.tealmuze_calls.specs.{Readings.FitsWord, Rooms.drawn_room, Sufficing.RoomSuffices}
 use Rattle.tealmuze_calls.specs.Told.{TellsAccepted, TellsOfProof, TellsProved, TellsOfValues}
 use Rattle.tealmuze_calls.specs.Told.{TellsOfDescribed, WantsForDescribed, EncodesValues}
-use Rattle.tealmuze_calls.specs.Written.{BySuite, IsNoVerdict}
+use Rattle.tealmuze_calls.specs.Written.{IsNoVerdict}
 use Rattle.tealmuze_calls.proofs.Sizes.{run-received, run-sent}
 use Rattle.tealmuze_calls.proofs.StepSizes.{step-drawn, step-received, step-sent}
 use Rattle.tealmuze_calls.proofs.{Alike.described-plain, Plain.rooms-same}
@@ -145,21 +145,6 @@ suffices IsVerdict IsAsked Wants short least one before after returned wanted fi
     (told, omega (arith, told.written.wanted, within, room))
 suffices IsVerdict IsAsked Wants short least one before after returned wanted fits (inr more) wants room =
     absurd (omega (arith, one returned wanted more.wants wants, more.more, room))
-
-pub by_suite-suffices : (bytes elements : List ℕ → List ℕ → Type 0) (asks_bytes asks_elements : List ℕ → List ℕ → Type 0)
-    (wants_bytes wants_elements : List ℕ → ℕ → Type 0) (given : List ℕ) →
-    ((protocol : List ℕ) → RoomSuffices (bytes protocol) (asks_bytes protocol given) (wants_bytes protocol)) →
-    ((protocol : List ℕ) → RoomSuffices (elements protocol) (asks_elements protocol given) (wants_elements protocol)) →
-    (description : List ℕ) → RoomSuffices (BySuite bytes elements description)
-    (BySuite asks_bytes asks_elements description given) (BySuite wants_bytes wants_elements description)
-by_suite-suffices bytes elements asks_bytes asks_elements wants_bytes wants_elements given first second [] =
-    λ before after returned wanted fits answers wants room. absurd wants
-by_suite-suffices bytes elements asks_bytes asks_elements wants_bytes wants_elements given first second (zero ∷ protocol) =
-    first protocol
-by_suite-suffices bytes elements asks_bytes asks_elements wants_bytes wants_elements given first second
-    (suc zero ∷ protocol) = second protocol
-by_suite-suffices bytes elements asks_bytes asks_elements wants_bytes wants_elements given first second
-    (suc (suc n) ∷ protocol) = λ before after returned wanted fits answers wants room. absurd wants
 
 module _ (Su U C K D G : Type 0) {F EF O Ac I S Symbol : Type 0} (rules : Rules S Symbol I F EF O Ac) (number : F → ℕ)
     (coefficients : EF → List F) (opaque_numbers : O → List ℕ) (AreOpaque : List ℕ → Type 0) (dimension : ℕ) (positive : 0 < dimension)

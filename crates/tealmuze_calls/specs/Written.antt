@@ -38,7 +38,7 @@ ByAnswer IsVerdict Wants (answer.Told bytes) = IsVerdict bytes.items
 ByAnswer IsVerdict Wants (answer.Wants wanted) = Wants wanted
 
 -- by the suite whose number is the first byte of a description: of what stands after it, and of what is told
-abbrev pub BySuite : {T : Type 0} → (bytes elements : List ℕ → T → Type 0) → List ℕ → T → Type 0
-BySuite bytes elements (zero ∷ protocol) told = bytes protocol told
-BySuite bytes elements (suc zero ∷ protocol) told = elements protocol told
-BySuite bytes elements _ told = ⊥
+abbrev pub BySuite : {T : Type 0} → List (List ℕ → T → Type 0) → List ℕ → T → Type 0
+BySuite (first ∷ others) (zero ∷ protocol) told = first protocol told
+BySuite (first ∷ others) (suc number ∷ protocol) told = BySuite others (number ∷ protocol) told
+BySuite _ _ told = ⊥

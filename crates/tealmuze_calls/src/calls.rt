@@ -3,7 +3,8 @@ ghost use Rattle.std.specs.Prelude.{ℕ, List};
 ghost use Rattle.tealmuze_calls.specs.Rooms.{room_for};
 ghost use Rattle.p3_challenger.specs.{Provings.AreHanded, Runs.carried_count, Scripts.play_of};
 ghost use Rattle.tealmuze_calls.specs.Told.{TellsOfProof, TellsOfValues, TellsOfDescribed, EncodesValues, WantsForDescribed};
-ghost use Rattle.tealmuze_calls.specs.Told.{CanBeCarried, DescribesSome, EncodesSendable};
+ghost use Rattle.tealmuze_calls.specs.{Descriptions.Describes, Told.{CanBeCarried, DescribesSome, EncodesSendable}};
+ghost use Rattle.p3_challenger.specs.{DomainSeparator.{DomainSeparator}, Step.{Step as Steps}};
 
 use crate::suites::Called;
 use p3_challenger::Sponge;
@@ -13,6 +14,11 @@ use p3_field::{BasedVectorSpace, PrimeCharacteristicRing};
 /// What is told of a protocol that a suite plays, whose description has these bytes after its first. Each member takes by
 /// how many coefficients a scalar has over its own field, which a member of an impl cannot name.
 pub trait Calls: Called {
+    // The protocol with this separator and these steps is the one that is described.
+    ghost describes: { ℕ → List ℕ → DomainSeparator Self.Unit Self.Digest → List (Steps Self Self.Field Self.Extension
+        Self.Unit Self.Opaque Self.Challenger Self.Codec Self.Accept Self.Digest Self.Group Self.Unit.Item
+        Self.Challenger.State Self.Challenger.Symbol) → Type 0 };
+
     // Of a proof, with these witnesses carried; by a verdict of these bytes.
     ghost tells_of_proof: { ℕ → List ℕ → List ℕ → List ℕ → List ℕ → Type 0 };
 
@@ -30,6 +36,9 @@ pub trait Calls: Called {
 }
 
 impl<S: Called> Calls for S {
+    ghost describes = { λ degree. Describes S.Field.residues.number S.Extension.coefficients S.opaque_numbers
+        S.are_opaque (⟦<S as Meaning>⟧.rules degree) };
+
     ghost tells_of_proof = { λ degree proof carried description told.
         let rules = ⟦<S as Meaning>⟧.rules degree in
         TellsOfDescribed S S.Unit S.Challenger S.Codec S.Digest S.Group rules S.Field.residues.number

@@ -4,9 +4,12 @@
 #![tactic(auto)]
 
 mod answers;
+mod by_suite;
 mod calls;
 mod cursor;
 mod description;
+mod duplex_suites;
+mod hash_suites;
 mod proving;
 mod readings;
 mod room;
@@ -20,6 +23,7 @@ mod verdicts;
 mod verifying;
 mod words;
 
+pub use crate::by_suite::{CallsBySuite, Suites};
 pub use crate::calls::Calls;
 pub use crate::proving::prove;
 pub use crate::readings::{

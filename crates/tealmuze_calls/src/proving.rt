@@ -1,12 +1,13 @@
 //! Values that are proved by one call.
-ghost use Rattle.std.specs.Prelude.{◌≡◌, ◌<◌, ◌∷◌, ◌++◌, length, IfOk, IfErr, List};
+ghost use Rattle.std.specs.Prelude.{◌≡◌, ◌<◌, ◌∷◌, ◌++◌, ℕ, length, IfOk, IfErr, List};
 ghost use Rattle.p3_challenger.specs.{Provings.AreHanded, Runs.AreAdmitted, Verdicts.script_of, Values.Value};
 ghost use Rattle.p3_challenger.specs.Scripts.{play_of, values_sent, challenges_of};
 ghost use Rattle.tealmuze_calls.specs.Forms.{number_bytes, counted_bytes, listed_bytes, scalar_bytes};
 ghost use Rattle.tealmuze_calls.specs.Forms.{value_bytes, challenge_bytes};
-ghost use Rattle.tealmuze_calls.specs.{Errors.IsDueTo, Told.TellsOfValues, Written.{ByAnswer, BySuite}};
+ghost use Rattle.tealmuze_calls.specs.{Errors.IsDueTo, Told.TellsOfValues, Written.ByAnswer};
 
 use crate::answers::{put_challenges, put_counted, put_scalars};
+use crate::by_suite::{CallsBySuite, Suites};
 use crate::calls::Calls;
 use crate::cursor::Cursor;
 use crate::description::Protocol;
@@ -18,9 +19,13 @@ use crate::values::parse_values;
 use crate::verdicts::{DONE, refused};
 use p3_challenger::Sponge;
 use p3_challenger::fs::script::{Meaning, Proved, Sent, prove as prove_script, sent_matches};
+use p3_keccak::Keccak256Hasher;
 use p3_symmetric::Sha256Hasher;
 use std::alloc::{AllocError, Global};
-use test_suites::{HashSuite, Serializing32Suite};
+use test_suites::{
+    BabyBearPoseidon2Suite, GoldilocksPoseidon2Suite, HashSuite, Serializing32Suite,
+    Serializing64Suite,
+};
 
 /// Proves values, and answers what is told of them. `room` bytes are given for it: where the answer may have more,
 /// nothing is proved.
@@ -30,19 +35,22 @@ pub fn prove(
     values: &[u8],
     room: usize,
 ) -> Result<Answer, Unanswered>
-    ensures ok { IfOk result (ByAnswer (BySuite
-        (⟦<HashSuite<Sha256Hasher> as Calls>⟧.tells_of_values 1 values.now)
-        (⟦<Serializing32Suite as Calls>⟧.tells_of_values 1 values.now) description.now)
-        (λ wanted. BySuite (⟦<HashSuite<Sha256Hasher> as Calls>⟧.wants_room 1 4 (length values.now))
-        (⟦<Serializing32Suite as Calls>⟧.wants_room 1 4 (length values.now)) description.now wanted
+    ensures ok { IfOk result (ByAnswer (⟦<Suites as CallsBySuite>⟧.tells_of_values values.now description.now)
+        (λ wanted. ⟦<Suites as CallsBySuite>⟧.wants_room (length values.now) description.now wanted
         × room < wanted)) }
-    ensures err { IfErr result (IsDueTo (BySuite (⟦<HashSuite<Sha256Hasher> as Calls>⟧.asks_of_values 1)
-        (⟦<Serializing32Suite as Calls>⟧.asks_of_values 1) description.now values.now → ⊥)) }
+    ensures err { IfErr result
+        (IsDueTo (⟦<Suites as CallsBySuite>⟧.asks_of_values description.now values.now → ⊥)) }
 {
     let mut from = Cursor::new(description);
     match from.byte()? {
         0 => prove_in::<HashSuite<Sha256Hasher>>(alloc, from, values, room),
         1 => prove_in::<Serializing32Suite>(alloc, from, values, room),
+        2 => prove_in::<HashSuite<Keccak256Hasher>>(alloc, from, values, room),
+        3 => prove_in::<Serializing32Suite<Keccak256Hasher>>(alloc, from, values, room),
+        4 => prove_in::<Serializing64Suite>(alloc, from, values, room),
+        5 => prove_in::<Serializing64Suite<Keccak256Hasher>>(alloc, from, values, room),
+        6 => prove_in::<BabyBearPoseidon2Suite>(alloc, from, values, room),
+        7 => prove_in::<GoldilocksPoseidon2Suite>(alloc, from, values, room),
         suite => Err(Unanswered::Suite(suite)),
     }
 }
@@ -61,12 +69,33 @@ fn prove_in<S: Called>(
         (IsDueTo (⟦<S as Calls>⟧.asks_of_values S.Field.DIMENSION from.entry.left.now values.now → ⊥)) }
 {
     let protocol = Protocol::<S>::parse(alloc, from)?;
+    prove_protocol(alloc, &protocol, values, room)
+}
+
+// Proves values of the protocol. `room` bytes are given for the answer.
+fn prove_protocol<S: Called>(
+    alloc: Global,
+    protocol: &Protocol<S>,
+    values: &[u8],
+    room: usize,
+) -> Result<Answer, Unanswered>
+    requires { let rules = ⟦<S as Meaning>⟧.rules S.Field.DIMENSION in
+        AreAdmitted (play_of rules) protocol.now.steps.items }
+    ensures ok { (description : List ℕ) → ⟦<S as Calls>⟧.describes S.Field.DIMENSION description
+        protocol.now.separator protocol.now.steps.items → IfOk result (ByAnswer
+        (⟦<S as Calls>⟧.tells_of_values S.Field.DIMENSION values.now description) (λ wanted.
+        ⟦<S as Calls>⟧.wants_room S.Field.DIMENSION S.Extension.DIMENSION (length values.now) description wanted
+        × room < wanted)) }
+    ensures err { (description : List ℕ) → ⟦<S as Calls>⟧.describes S.Field.DIMENSION description
+        protocol.now.separator protocol.now.steps.items → IfErr result
+        (IsDueTo (⟦<S as Calls>⟧.asks_of_values S.Field.DIMENSION description values.now → ⊥)) }
+{
     let wanted = wanted_room(protocol.steps.as_slice(), values.len());
     if wanted > room {
         return Ok(Answer::Wants(wanted));
     }
     let sent = parse_values::<S>(alloc, values)?;
-    let bytes = answer(alloc, S::fresh(alloc), &protocol, sent.as_slice())?;
+    let bytes = answer(alloc, S::fresh(alloc), protocol, sent.as_slice())?;
     Ok(Answer::Told(bytes))
 }
 

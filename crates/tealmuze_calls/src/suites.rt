@@ -1,21 +1,15 @@
 //! The suites that a description can name.
-ghost use Rattle.std.specs.Prelude.{◌≡◌, ◌<◌, ◌≤◌, ℕ, List, [], map, IfOk, IfErr, OnOk};
-ghost use Rattle.std.proofs.Common.{lit≤};
-ghost use Rattle.p3_challenger.specs.{Digests.values_of, HashCalls.with_pending, HashValueLaws.values-injective};
-ghost use Rattle.tealmuze_calls.specs.{DigestLaws.bytes-one, Errors.IsDueTo, Readings.AreSoMany};
+ghost use Rattle.std.specs.Prelude.{◌≡◌, ◌≤◌, ℕ, List, IfOk, IfErr, OnOk};
+ghost use Rattle.tealmuze_calls.specs.Errors.{IsDueTo};
 
 use crate::unanswered::Unanswered;
-use crate::words::digest;
+use p3_challenger::Sponge;
 use p3_challenger::fs::DomainSeparator;
 use p3_challenger::fs::script::Suite;
-use p3_challenger::{HashChallenger, SerializingChallenger32, Sponge};
-use p3_field::BabyBear;
-use p3_symmetric::{Hash, Sha256Hasher};
 use std::alloc::Global;
-use test_suites::{HashSuite, Serializing32Suite};
 
-// How many candidates a draw of an element tries at most.
-const DRAW_LIMIT: u64 = 1000;
+/// How many candidates a draw of an element tries at most.
+pub const DRAW_LIMIT: u64 = 1000;
 
 /// What binds a transcript to a script.
 pub type SeparatorOf<S> = DomainSeparator<<S as Suite>::Unit, <S as Suite>::Digest>;
@@ -48,51 +42,4 @@ pub trait Called: Suite {
     ghost few_bytes: { Self.Codec.encoding.width ≤ 64 };
 
     ghost few_bits: { Self.Field.bit_length ≤ 64 };
-}
-
-impl Called for HashSuite<Sha256Hasher> {
-    ghost is_fresh = { λ s. s.sponge ≡ with_pending [] };
-
-    ghost opaque_numbers = { λ digest. map (λ byte. byte) digest };
-
-    ghost are_opaque = { AreSoMany 32 (λ number. number < 256) };
-
-    fn fresh(alloc: Global) -> HashChallenger<u8, Sha256Hasher, 32> {
-        HashChallenger::new(Vec::new(alloc), Sha256Hasher)
-    }
-
-    fn opaque(alloc: Global, numbers: &[u64]) -> Result<[u8; 32], Unanswered> {
-        digest::<u8, 32>(alloc, numbers)
-    }
-
-    ghost one_opaque = { bytes-one };
-
-    ghost few_bytes = { lit≤ tt };
-
-    ghost few_bits = { lit≤ tt };
-}
-
-impl Called for Serializing32Suite<Sha256Hasher, Sha256Hasher> {
-    ghost is_fresh = { λ s. (s.inner.sponge ≡ with_pending []) × (s.draw_limit ≡ 1000) };
-
-    ghost opaque_numbers = { λ digest. map (λ byte. byte) (values_of digest) };
-
-    ghost are_opaque = { AreSoMany 32 (λ number. number < 256) };
-
-    fn fresh(
-        alloc: Global,
-    ) -> SerializingChallenger32<BabyBear, HashChallenger<u8, Sha256Hasher, 32>> {
-        let inner = HashChallenger::new(Vec::new(alloc), Sha256Hasher);
-        SerializingChallenger32::new(inner, DRAW_LIMIT)
-    }
-
-    fn opaque(alloc: Global, numbers: &[u64]) -> Result<Hash<BabyBear, u8, 32>, Unanswered> {
-        Ok(Hash::from(digest::<u8, 32>(alloc, numbers)?))
-    }
-
-    ghost one_opaque = { λ x y same. values-injective x y (bytes-one (values_of x) (values_of y) same) };
-
-    ghost few_bytes = { lit≤ tt };
-
-    ghost few_bits = { lit≤ tt };
 }

@@ -1,11 +1,12 @@
 //! A proof that is verified by one call.
-ghost use Rattle.std.specs.Prelude.{◌≡◌, ◌<◌, ◌∷◌, ◌++◌, length, map, IfOk, IfErr};
+ghost use Rattle.std.specs.Prelude.{◌≡◌, ◌<◌, ◌∷◌, ◌++◌, ℕ, List, length, map, IfOk, IfErr};
 ghost use Rattle.p3_challenger.specs.{Runs.{AreAdmitted, carried_count}, Verdicts.script_of};
 ghost use Rattle.p3_challenger.specs.Scripts.{play_of, values_received, challenges_of};
 ghost use Rattle.tealmuze_calls.specs.Forms.{listed_bytes, value_bytes, challenge_bytes};
-ghost use Rattle.tealmuze_calls.specs.{Errors.IsDueTo, Told.{TellsOfProof, CanBeCarried}, Written.{ByAnswer, BySuite}};
+ghost use Rattle.tealmuze_calls.specs.{Errors.IsDueTo, Told.{TellsOfProof, CanBeCarried}, Written.ByAnswer};
 
 use crate::answers::{put_challenges, put_received};
+use crate::by_suite::{CallsBySuite, Suites};
 use crate::calls::Calls;
 use crate::cursor::Cursor;
 use crate::description::Protocol;
@@ -17,9 +18,13 @@ use crate::verdicts::{DONE, refused};
 use crate::words::scalars;
 use p3_challenger::Sponge;
 use p3_challenger::fs::script::{Meaning, Step, Verified, carried_len, verify as verify_script};
+use p3_keccak::Keccak256Hasher;
 use p3_symmetric::Sha256Hasher;
 use std::alloc::{AllocError, Global};
-use test_suites::{HashSuite, Serializing32Suite};
+use test_suites::{
+    BabyBearPoseidon2Suite, GoldilocksPoseidon2Suite, HashSuite, Serializing32Suite,
+    Serializing64Suite,
+};
 
 /// Verifies a proof, and answers what is told of it. `room` bytes are given for it: where the answer may have more,
 /// nothing is verified.
@@ -30,19 +35,22 @@ pub fn verify(
     carried: &[u64],
     room: usize,
 ) -> Result<Answer, Unanswered>
-    ensures ok { IfOk result (ByAnswer (BySuite
-        (⟦<HashSuite<Sha256Hasher> as Calls>⟧.tells_of_proof 1 proof.now carried.now)
-        (⟦<Serializing32Suite as Calls>⟧.tells_of_proof 1 proof.now carried.now) description.now)
-        (λ wanted. BySuite (⟦<HashSuite<Sha256Hasher> as Calls>⟧.wants_room 1 4 (length proof.now))
-        (⟦<Serializing32Suite as Calls>⟧.wants_room 1 4 (length proof.now)) description.now wanted
-        × room < wanted)) }
-    ensures err { IfErr result (IsDueTo (BySuite (⟦<HashSuite<Sha256Hasher> as Calls>⟧.asks_of_proof 1)
-        (⟦<Serializing32Suite as Calls>⟧.asks_of_proof 1) description.now carried.now → ⊥)) }
+    ensures ok { IfOk result (ByAnswer
+        (⟦<Suites as CallsBySuite>⟧.tells_of_proof proof.now carried.now description.now) (λ wanted.
+        ⟦<Suites as CallsBySuite>⟧.wants_room (length proof.now) description.now wanted × room < wanted)) }
+    ensures err { IfErr result
+        (IsDueTo (⟦<Suites as CallsBySuite>⟧.asks_of_proof description.now carried.now → ⊥)) }
 {
     let mut from = Cursor::new(description);
     match from.byte()? {
         0 => verify_in::<HashSuite<Sha256Hasher>>(alloc, from, proof, carried, room),
         1 => verify_in::<Serializing32Suite>(alloc, from, proof, carried, room),
+        2 => verify_in::<HashSuite<Keccak256Hasher>>(alloc, from, proof, carried, room),
+        3 => verify_in::<Serializing32Suite<Keccak256Hasher>>(alloc, from, proof, carried, room),
+        4 => verify_in::<Serializing64Suite>(alloc, from, proof, carried, room),
+        5 => verify_in::<Serializing64Suite<Keccak256Hasher>>(alloc, from, proof, carried, room),
+        6 => verify_in::<BabyBearPoseidon2Suite>(alloc, from, proof, carried, room),
+        7 => verify_in::<GoldilocksPoseidon2Suite>(alloc, from, proof, carried, room),
         suite => Err(Unanswered::Suite(suite)),
     }
 }
@@ -62,11 +70,33 @@ fn verify_in<S: Called>(
         (IsDueTo (⟦<S as Calls>⟧.asks_of_proof S.Field.DIMENSION from.entry.left.now carried.now → ⊥)) }
 {
     let protocol = Protocol::<S>::parse(alloc, from)?;
+    verify_protocol(alloc, &protocol, proof, carried, room)
+}
+
+// Verifies a proof of the protocol. `room` bytes are given for the answer.
+fn verify_protocol<S: Called>(
+    alloc: Global,
+    protocol: &Protocol<S>,
+    proof: &[u8],
+    carried: &[u64],
+    room: usize,
+) -> Result<Answer, Unanswered>
+    requires { let rules = ⟦<S as Meaning>⟧.rules S.Field.DIMENSION in
+        AreAdmitted (play_of rules) protocol.now.steps.items }
+    ensures ok { (description : List ℕ) → ⟦<S as Calls>⟧.describes S.Field.DIMENSION description
+        protocol.now.separator protocol.now.steps.items → IfOk result (ByAnswer
+        (⟦<S as Calls>⟧.tells_of_proof S.Field.DIMENSION proof.now carried.now description) (λ wanted.
+        ⟦<S as Calls>⟧.wants_room S.Field.DIMENSION S.Extension.DIMENSION (length proof.now) description wanted
+        × room < wanted)) }
+    ensures err { (description : List ℕ) → ⟦<S as Calls>⟧.describes S.Field.DIMENSION description
+        protocol.now.separator protocol.now.steps.items → IfErr result
+        (IsDueTo (⟦<S as Calls>⟧.asks_of_proof S.Field.DIMENSION description carried.now → ⊥)) }
+{
     let wanted = wanted_room(protocol.steps.as_slice(), proof.len());
     if wanted > room {
         return Ok(Answer::Wants(wanted));
     }
-    let bytes = answer(alloc, S::fresh(alloc), &protocol, proof, carried)?;
+    let bytes = answer(alloc, S::fresh(alloc), protocol, proof, carried)?;
     Ok(Answer::Told(bytes))
 }
 

@@ -2,10 +2,11 @@
 ghost use Rattle.std.specs.Prelude.{◌≡◌, ℕ, ◌<◌, ◌≤◌, ◌^◌, List, length, map, flat_map, IfOk, IfErr, IfSome, IfNone};
 ghost use Rattle.std.specs.Prelude.{OnOk};
 ghost use Rattle.std.specs.List.{All};
+ghost use Rattle.tealmuze_calls.specs.DigestLaws.{small_prime-one, goldilocks-one};
 ghost use Rattle.tealmuze_calls.specs.{Errors.IsDueTo, Readings.AreSoMany};
 
 use crate::unanswered::Unanswered;
-use p3_field::{BabyBear, BasedVectorSpace, PrimeCharacteristicRing, PrimeField64};
+use p3_field::{BabyBear, BasedVectorSpace, Goldilocks, PrimeCharacteristicRing, PrimeField64};
 use std::alloc::Global;
 
 /// What a digest has so many of.
@@ -15,6 +16,9 @@ pub trait Word: Copy {
 
     // What is the number of one.
     ghost is_encoded: { ℕ → Type 0 };
+
+    // No two words are encoded alike.
+    ghost one: { (word other : Self) → encoded word ≡ encoded other → word ≡ other };
 
     /// The word of a number, if it is that of one.
     fn of_number(number: u64) -> Option<Self>
@@ -26,6 +30,8 @@ impl Word for u8 {
     ghost encoded = { λ byte. byte };
 
     ghost is_encoded = { λ number. number < 256 };
+
+    ghost one = { λ word other same. same };
 
     fn of_number(number: u64) -> Option<u8> {
         if number < 256 {
@@ -41,6 +47,8 @@ impl Word for u64 {
 
     ghost is_encoded = { λ number. number < 2 ^ 64 };
 
+    ghost one = { λ word other same. same };
+
     fn of_number(number: u64) -> Option<u64> {
         Some(number)
     }
@@ -51,7 +59,21 @@ impl Word for BabyBear {
 
     ghost is_encoded = { λ number. number < ⟦<BabyBear as PrimeCharacteristicRing>⟧.residues.order };
 
+    ghost one = { small_prime-one };
+
     fn of_number(number: u64) -> Option<BabyBear> {
+        scalar(number)
+    }
+}
+
+impl Word for Goldilocks {
+    ghost encoded = { ⟦<Goldilocks as PrimeCharacteristicRing>⟧.residues.number };
+
+    ghost is_encoded = { λ number. number < ⟦<Goldilocks as PrimeCharacteristicRing>⟧.residues.order };
+
+    ghost one = { goldilocks-one };
+
+    fn of_number(number: u64) -> Option<Goldilocks> {
         scalar(number)
     }
 }

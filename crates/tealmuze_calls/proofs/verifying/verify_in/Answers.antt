@@ -1,45 +1,14 @@
-use Rattle.std.proofs.Common.{ℕ, subst}
-use Rattle.tealmuze_calls.specs.Told.{CanBeCarried}
-use Rattle.tealmuze_calls.proofs.{Dues.due_passed, Readers.same_carried}
+use Rattle.tealmuze_calls.proofs.Dues.{due_passed}
 use Rattle.tealmuze_calls.proofs.verifying.verify_in.Goals as goal
 
--- more bytes are wanted than there are
-pub returns-then-wanted-room-clause-ok : goal.returns-then-wanted-room-clause-ok
-returns-then-wanted-room-clause-ok g c = (
-  record {
-    separator = c.in_ok-protocol.protocol.separator;
-    steps = c.in_ok-protocol.protocol.steps.items;
-    describes = c.in_ok-protocol.ensures.ok;
-    wanted_is = rw c.as_slice.ensures.value at c.wanted_room-wanted.ensures;
-  },
-  c.if-wanted-room.true,
-)
-
--- a verdict
 pub returns-clause-ok : goal.returns-clause-ok
-returns-clause-ok g c = record {
-  start = g.S.Challenger.Sponge.state c.fresh.result;
-  fresh = c.fresh.ensures;
-  separator = c.in_ok-protocol.protocol.separator;
-  steps = c.in_ok-protocol.protocol.steps.items;
-  describes = c.in_ok-protocol.ensures.ok;
-  tells = c.in_ok-bytes.ensures.ok;
-}
+returns-clause-ok g c = c.verify_protocol.ensures.ok _ c.in_ok-protocol.ensures.ok
+
+pub returns-clause-err : goal.returns-clause-err
+returns-clause-err g c = c.verify_protocol.ensures.err _ c.in_ok-protocol.ensures.ok
 
 -- nothing is described
 pub returns-in_err-protocol-clause-err : goal.returns-in_err-protocol-clause-err
 returns-in_err-protocol-clause-err g c =
     due_passed c.from_residual.result _ _ _ (λ none asked. none (asked.separator, asked.steps) asked.describes)
     c.from_residual.ensures.1 c.in_err-protocol.ensures.err
-
--- these numbers cannot be carried
-pub returns-in_err-bytes-clause-err : goal.returns-in_err-bytes-clause-err
-returns-in_err-bytes-clause-err g c =
-    let CanBe = λ (count : ℕ). CanBeCarried count g.S.Field.PrimeCharacteristicRing.residues.order c.args.carried.now in
-    due_passed c.from_residual-in_err-bytes.result _ _ _ (λ none asked. none (subst CanBe
-    (same_carried g.S.Field.PrimeCharacteristicRing.residues.number g.S.Extension.BasedVectorSpace.coefficients
-    g.S.Called.opaque_numbers g.S.Called.are_opaque _ c.args.from.left.now asked.separator
-    c.in_ok-protocol.protocol.separator asked.steps c.in_ok-protocol.protocol.steps.items asked.describes
-    c.in_ok-protocol.ensures.ok g.S.Extension.BasedVectorSpace.DIMENSION
-    g.met.S.Extension.BasedVectorSpace.at_least_one g.met.S.Extension.BasedVectorSpace.length_coefficients) asked.such))
-    c.from_residual-in_err-bytes.ensures.1 c.in_err-bytes.ensures.err
