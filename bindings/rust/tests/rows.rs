@@ -312,5 +312,5 @@ fn rows_of_the_rust_crate() {
             }
         }
     }
-    assert!(played > 450, "{played} rows");
+    assert!(played > 600, "{played} rows");
 }
