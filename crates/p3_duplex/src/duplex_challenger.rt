@@ -219,7 +219,9 @@ impl<
         rate
     }
 
-    // Absorbs what is pending, or only permutes where nothing is. All outputs are left.
+    // Absorbs what is pending, or only permutes where nothing is. All outputs are left. Not inlined, so that a draw of an
+    // output that is left stays short enough to stand where it is called.
+    #[inline(never)]
     fn duplex(&mut self)
         ensures { self.new ≡ duplexed F.residues P.permutation RATE self.old }
     {
@@ -233,6 +235,7 @@ impl<
     }
 
     // Draws a value: the last output left, after a permutation where none is.
+    #[inline(always)]
     fn draw(&mut self) -> F
         ensures value { result ≡ sampled F.residues P.permutation RATE self.old }
         ensures after { self.new ≡ after_sampled F.residues P.permutation RATE self.old }
