@@ -1,2 +1,4 @@
 mod HashValues
 mod InLanes
+mod Majority
+mod Rotations
