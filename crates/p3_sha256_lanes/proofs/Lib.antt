@@ -1,4 +1,4 @@
+mod ChMaj
 mod HashValues
 mod InLanes
-mod Majority
 mod Rotations

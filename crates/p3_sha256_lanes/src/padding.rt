@@ -47,6 +47,9 @@ fn padding_word(message_length: usize, place: usize) -> u32
     if place > 0 && place + 3 <= zero_count(message_length) {
         return 0;
     }
+    if place == 0 && zero_count(message_length) >= 3 {
+        return u32::from_be_bytes([0x80, 0, 0, 0]);
+    }
     // Where the message ends with a word, so do the zeros.
     if place > zero_count(message_length) {
         return u32::from_be_bytes([

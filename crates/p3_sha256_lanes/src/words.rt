@@ -1,7 +1,7 @@
 // Four words side by side, and in each lane the operations and functions of FIPS 180-4 (3.2 and 4.1.2).
 ghost use Rattle.std.specs.Prelude.{◌≡◌, ◌-◌, ◌*◌, ◌/◌, ◌%◌, ◌^◌, ◌<◌, ℕ, slice_index};
 ghost use Rattle.std.specs.Prelude.{bit_and, bit_or, bit_xor};
-ghost use Rattle.std.specs.Int.{w32, bit_not, rotate_right};
+ghost use Rattle.std.specs.Int.{w32, rotate_right};
 ghost use Rattle.sha2.specs.Sha256.{add32, ch, maj, big_sigma0, big_sigma1, small_sigma0, small_sigma1};
 
 use std::simd::u32x4;
@@ -43,14 +43,6 @@ fn or(x: Words, y: Words) -> Words
 }
 
 #[inline(always)]
-fn not(x: Words) -> Words
-    ensures { (lane : ℕ) → lane < 4 →
-        slice_index result lane ≡ bit_not w32 (slice_index x lane) }
-{
-    !x
-}
-
-#[inline(always)]
 fn shifted_right(x: Words, bits: u32) -> Words
     requires { bits < 32 }
     ensures { (lane : ℕ) → lane < 4 →
@@ -78,12 +70,13 @@ fn rotated_right(x: Words, bits: u32) -> Words
     or(shifted_right(x, bits), shifted_left(x, 32 - bits))
 }
 
+// One operation fewer than the standard's form.
 #[inline(always)]
 pub(crate) fn ch(x: Words, y: Words, z: Words) -> Words
     ensures { (lane : ℕ) → lane < 4 →
         slice_index result lane ≡ ch (slice_index x lane) (slice_index y lane) (slice_index z lane) }
 {
-    xor(and(x, y), and(not(x), z))
+    xor(z, and(x, xor(y, z)))
 }
 
 // A round's `x ^ y` is the next round's `y ^ z`, so it is computed once.

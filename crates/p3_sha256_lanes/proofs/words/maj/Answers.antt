@@ -1,5 +1,5 @@
 use Rattle.std.proofs.Common.{slice_index}
-use Rattle.p3_sha256_lanes.proofs.Majority.{maj_short}
+use Rattle.p3_sha256_lanes.proofs.ChMaj.{maj_short}
 use Rattle.p3_sha256_lanes.proofs.words.maj.Goals as goal
 
 pub returns : goal.returns
