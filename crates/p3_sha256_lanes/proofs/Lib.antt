@@ -1,4 +1,3 @@
 mod ChMaj
 mod HashValues
 mod InLanes
-mod Rotations

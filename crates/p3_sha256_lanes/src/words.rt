@@ -88,15 +88,15 @@ pub(crate) fn maj(x: Words, y: Words, z: Words) -> Words
     xor(y, and(xor(x, y), xor(y, z)))
 }
 
-// The four functions below rotate what they have rotated: each rotation destroys its operand, and `x` itself would
-// have to be copied each time.
 #[inline(always)]
 pub(crate) fn big_sigma0(x: Words) -> Words
     ensures { (lane : ℕ) → lane < 4 →
         slice_index result lane ≡ big_sigma0 (slice_index x lane) }
 {
-    let inner = xor(x, rotated_right(x, 9));
-    rotated_right(xor(x, rotated_right(inner, 11)), 2)
+    xor(
+        xor(rotated_right(x, 2), rotated_right(x, 13)),
+        rotated_right(x, 22),
+    )
 }
 
 #[inline(always)]
@@ -104,8 +104,10 @@ pub(crate) fn big_sigma1(x: Words) -> Words
     ensures { (lane : ℕ) → lane < 4 →
         slice_index result lane ≡ big_sigma1 (slice_index x lane) }
 {
-    let inner = xor(x, rotated_right(x, 14));
-    rotated_right(xor(x, rotated_right(inner, 5)), 6)
+    xor(
+        xor(rotated_right(x, 6), rotated_right(x, 11)),
+        rotated_right(x, 25),
+    )
 }
 
 #[inline(always)]
@@ -113,8 +115,10 @@ pub(crate) fn small_sigma0(x: Words) -> Words
     ensures { (lane : ℕ) → lane < 4 →
         slice_index result lane ≡ small_sigma0 (slice_index x lane) }
 {
-    let rotated = rotated_right(xor(x, rotated_right(x, 11)), 7);
-    xor(rotated, shifted_right(x, 3))
+    xor(
+        xor(rotated_right(x, 7), rotated_right(x, 18)),
+        shifted_right(x, 3),
+    )
 }
 
 #[inline(always)]
@@ -122,6 +126,8 @@ pub(crate) fn small_sigma1(x: Words) -> Words
     ensures { (lane : ℕ) → lane < 4 →
         slice_index result lane ≡ small_sigma1 (slice_index x lane) }
 {
-    let rotated = rotated_right(xor(x, rotated_right(x, 2)), 17);
-    xor(rotated, shifted_right(x, 10))
+    xor(
+        xor(rotated_right(x, 17), rotated_right(x, 19)),
+        shifted_right(x, 10),
+    )
 }

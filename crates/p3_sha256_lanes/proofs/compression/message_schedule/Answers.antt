@@ -1,0 +1,59 @@
+use Rattle.std.proofs.Common.{◌≡◌, ◌-◌, ◌∙◌, sym, refl, arith, inl, inr}
+use Rattle.std.proofs.lemmas.{List.{length-set}, Bool.cases_lt}
+use Rattle.sha2.specs.Sha256.{schedule, next_word}
+use Rattle.sha2.proofs.Schedule256.{slice_index-schedule_first, slice_index-schedule_next}
+use Rattle.p3_sha256_lanes.specs.Lanes.{words_in}
+use Rattle.p3_sha256_lanes.proofs.InLanes.{word_of_lane, words_in-set_same, words_in-set_other}
+use Rattle.p3_sha256_lanes.proofs.compression.message_schedule.Goals as goal
+
+pub block-preserved : goal.block-preserved
+block-preserved c =
+    let words = c.block.schedule in (
+      length-set words c.block.i _ ∙ c.block.invariant.0,
+      λ lane k low. elim (cases_lt k c.block.i) [
+        | inl before ↦
+            words_in-set_other lane words c.block.i k _ (omega arith) ∙ c.block.invariant.1 lane k before
+        | inr after ↦
+            let same : c.block.i ≡ k = omega arith in
+            rw (← same) (
+            words_in-set_same lane words c.block.i _ (omega arith)
+            ∙ sym (word_of_lane lane c.args.words c.block.i (omega arith)))
+      ],
+    )
+
+pub following-init : goal.following-init
+following-init c = (
+  c.block.invariant.0,
+  λ lane is_lane block words k low.
+      c.block.invariant.1 lane k (omega arith) ∙ words k (omega (arith, low))
+      ∙ sym (slice_index-schedule_first block 48 k (omega (arith, low))),
+)
+
+pub following-preserved : goal.following-preserved
+following-preserved c =
+    let words = c.following.schedule in
+    let t = c.following.t in (
+      length-set words t _ ∙ c.following.invariant.0,
+      λ lane is_lane block given k low. elim (cases_lt k t) [
+        | inl before ↦
+            words_in-set_other lane words t k _ (omega arith) ∙ c.following.invariant.1 lane is_lane block given k before
+        | inr after ↦
+            let same : t ≡ k = omega arith in
+            let held = c.following.invariant.1 lane is_lane block given in
+            let word = c.schedule_word.ensures lane is_lane in
+            let next : next_word (words_in lane words) t ≡ next_word (schedule block 48) t =
+            rw (
+              held (t - 2) (omega arith),
+              held (t - 7) (omega arith),
+              held (t - 15) (omega arith),
+              held (t - 16) (omega arith),
+            ) refl in
+            rw (← same) (
+            words_in-set_same lane words t _ (omega arith)
+            ∙ word ∙ next ∙ sym (slice_index-schedule_next block 48 t (omega arith) (omega arith)))
+      ],
+    )
+
+pub returns : goal.returns
+returns c = λ lane is_lane block words t low.
+    c.following.invariant.1 lane is_lane block words t (omega (arith, low))
