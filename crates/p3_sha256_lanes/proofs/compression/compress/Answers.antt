@@ -11,7 +11,7 @@ pub rounds-preserved : goal.rounds-preserved
 rounds-preserved c = λ lane is_lane block words.
     let h = state_in lane c.args.hash_values.now in
     let after = rounds h (schedule block 48) in
-    let is = c.message_schedule-schedule.ensures lane is_lane block words in
+    let is = c.write_schedule.ensures lane is_lane block words in
     let s1 = c.four_rounds-variables.ensures lane is_lane block h is (c.rounds.invariant lane is_lane block words) in
     c.four_rounds-variables-in-rounds.ensures lane is_lane block h is (s1 ∙ ap after (omega arith)) ∙ ap after (omega arith)
 

@@ -4,7 +4,7 @@ use Rattle.sha2.specs.Sha256.{schedule, next_word}
 use Rattle.sha2.proofs.Schedule256.{slice_index-schedule_first, slice_index-schedule_next}
 use Rattle.p3_sha256_lanes.specs.Lanes.{words_in}
 use Rattle.p3_sha256_lanes.proofs.InLanes.{word_of_lane, words_in-set_same, words_in-set_other}
-use Rattle.p3_sha256_lanes.proofs.compression.message_schedule.Goals as goal
+use Rattle.p3_sha256_lanes.proofs.compression.write_schedule.Goals as goal
 
 pub block-preserved : goal.block-preserved
 block-preserved c =
@@ -17,7 +17,7 @@ block-preserved c =
             let same : c.block.i ≡ k = omega arith in
             rw (← same) (
             words_in-set_same lane words c.block.i _ (omega arith)
-            ∙ sym (word_of_lane lane c.args.words c.block.i (omega arith)))
+            ∙ sym (word_of_lane lane c.args.words.now c.block.i (omega arith)))
       ],
     )
 

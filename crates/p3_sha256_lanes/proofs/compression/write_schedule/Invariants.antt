@@ -1,7 +1,7 @@
 use Rattle.std.proofs.Common.{◌≡◌, ◌*◌, ◌<◌, ℕ, List, length, slice_index}
 use Rattle.sha2.specs.Sha256.{schedule, word_at}
 use Rattle.p3_sha256_lanes.specs.Lanes.{words_in}
-use Rattle.p3_sha256_lanes.proofs.compression.message_schedule.Given as goal
+use Rattle.p3_sha256_lanes.proofs.compression.write_schedule.Given as goal
 
 -- the words so far are the block's
 abbrev pub invariant-block : goal.invariant-block
