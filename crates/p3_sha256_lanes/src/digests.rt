@@ -69,7 +69,7 @@ pub fn four_digests(messages: &[u8]) -> [[u8; 32]; 4]
     // After the message come the byte 0x80, the zeros, and 8 bytes of its length.
     let block_count = (each + zero_count(each) + 9) / 64;
     'each_block: for index in 0..block_count {
-        compress(&mut hash_values, block_words(messages, each, index));
+        compress(&mut hash_values, &block_words(messages, each, index));
     }
     [
         digest_in_lane(&hash_values, 0),

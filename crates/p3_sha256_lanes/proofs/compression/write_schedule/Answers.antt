@@ -30,29 +30,15 @@ following-init c = (
 )
 
 pub following-preserved : goal.following-preserved
-following-preserved c =
-    let words = c.following.schedule in
-    let t = c.following.t in (
-      length-set words t _ ∙ c.following.invariant.0,
-      λ lane is_lane block given k low. elim (cases_lt k t) [
-        | inl before ↦
-            words_in-set_other lane words t k _ (omega arith) ∙ c.following.invariant.1 lane is_lane block given k before
-        | inr after ↦
-            let same : t ≡ k = omega arith in
-            let held = c.following.invariant.1 lane is_lane block given in
-            let word = c.schedule_word.ensures lane is_lane in
-            let next : next_word (words_in lane words) t ≡ next_word (schedule block 48) t =
-            rw (
-              held (t - 2) (omega arith),
-              held (t - 7) (omega arith),
-              held (t - 15) (omega arith),
-              held (t - 16) (omega arith),
-            ) refl in
-            rw (← same) (
-            words_in-set_same lane words t _ (omega arith)
-            ∙ word ∙ next ∙ sym (slice_index-schedule_next block 48 t (omega arith) (omega arith)))
-      ],
-    )
+following-preserved c = (
+  omega arith,
+  λ lane is_lane block given k low.
+      let s1 = c.write_word.ensures lane is_lane block (c.following.invariant.1 lane is_lane block given) in
+      let s2 = c.write_word-in-following.ensures lane is_lane block s1 in
+      let s3 = c.write_word-in-following-2.ensures lane is_lane block (λ j below. s2 j (omega (arith, below))) in
+      let s4 = c.write_word-in-following-3.ensures lane is_lane block (λ j below. s3 j (omega (arith, below))) in
+      s4 k (omega (arith, low)),
+)
 
 pub returns : goal.returns
 returns c = λ lane is_lane block words t low.

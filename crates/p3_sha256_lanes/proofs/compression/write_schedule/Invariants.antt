@@ -15,4 +15,4 @@ invariant-following g =
     (length g.schedule ≡ 64)
     × ((lane : ℕ) → lane < 4 → (block : List ℕ)
     → ((i : ℕ) → i < 16 → slice_index (words_in lane g.fn.words) i ≡ word_at block (4 * i))
-    → (k : ℕ) → k < g.t → slice_index (words_in lane g.schedule) k ≡ slice_index (schedule block 48) k)
+    → (k : ℕ) → k < 4 * g.turn → slice_index (words_in lane g.schedule) k ≡ slice_index (schedule block 48) k)
