@@ -127,7 +127,7 @@ fn message_in_lane(messages: &[u8], each: usize, lane: usize) -> &[u8]
 
 // The words that begin at a place of each of four messages, and end before the padding. They are read with no test.
 #[inline(always)]
-fn message_words(messages: &[u8], each: usize, place: usize) -> Words
+pub(crate) fn message_words(messages: &[u8], each: usize, place: usize) -> Words
     requires whole { length messages.now ≡ 4 * each }
     requires inside { place + 4 ≤ each }
     ensures { (lane : ℕ) → lane < 4 → slice_index result lane
@@ -152,9 +152,6 @@ pub(crate) fn padded_words(messages: &[u8], each: usize, place: usize) -> Words
     // Messages of one length have the same padding.
     if place >= each {
         return Words::splat(padding_word(each, place - each));
-    }
-    if each - place >= 4 {
-        return message_words(messages, each, place);
     }
     Words::from_array([
         padded_word(message_in_lane(messages, each, 0), place),

@@ -1,8 +1,6 @@
-use Rattle.std.proofs.Common.{◌≡◌, ◌-◌, ◌∙◌, sym, refl, arith, inl, inr}
+use Rattle.std.proofs.Common.{◌≡◌, ◌∙◌, sym, arith, inl, inr}
 use Rattle.std.proofs.lemmas.{List.{length-set}, Bool.cases_lt}
-use Rattle.sha2.specs.Sha256.{schedule, next_word}
-use Rattle.sha2.proofs.Schedule256.{slice_index-schedule_first, slice_index-schedule_next}
-use Rattle.p3_sha256_lanes.specs.Lanes.{words_in}
+use Rattle.sha2.proofs.Schedule256.{slice_index-schedule_first}
 use Rattle.p3_sha256_lanes.proofs.InLanes.{word_of_lane, words_in-set_same, words_in-set_other}
 use Rattle.p3_sha256_lanes.proofs.compression.write_schedule.Goals as goal
 
