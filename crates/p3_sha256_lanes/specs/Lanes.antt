@@ -1,6 +1,5 @@
 -- Words of several messages side by side, one in each lane, and the words in one lane.
-use Rattle.std.specs.Prelude.{◌≡◌, ◌<◌, ℕ, List, [], ◌∷◌, map, slice_index, slice_index_or}
-use Rattle.sha2.specs.Sha256.{schedule}
+use Rattle.std.specs.Prelude.{ℕ, List, [], ◌∷◌, map, slice_index, slice_index_or}
 
 -- the word at a place in a lane
 abbrev pub word_in : ℕ → List (List ℕ) → ℕ → ℕ
@@ -15,7 +14,3 @@ state_in lane words =
 -- all words in a lane
 abbrev pub words_in : ℕ → List (List ℕ) → List ℕ
 words_in lane words = map (λ word. slice_index word lane) words
-
--- the words are W 0, …, W 63 of a block
-abbrev pub IsSchedule : List ℕ → List ℕ → Type 0
-IsSchedule block words = (t : ℕ) → t < 64 → slice_index words t ≡ slice_index (schedule block 48) t

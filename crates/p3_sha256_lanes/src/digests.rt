@@ -5,7 +5,7 @@ ghost use Rattle.sha2.specs.Sha256.{digest_bytes, initial_hash_256, padded_messa
 ghost use Rattle.p3_sha256_lanes.specs.{Lanes.{state_in, words_in}, Padding.padded_length};
 
 use crate::compression::compress;
-use crate::padding::{message_words, padded_words, zero_count};
+use crate::padding::{padded_words, zero_count};
 use crate::words::Words;
 
 // The hash values before the first block (FIPS 180-4, 5.3.3).
@@ -38,7 +38,7 @@ fn block_words(messages: &[u8], each: usize, index: usize) -> [Words; 16]
     // The words before the padding, and then those of it.
     let whole = (each.saturating_sub(64 * index) / 4).min(16);
     'whole: for i in 0..whole {
-        words[i] = message_words(messages, each, 64 * index + 4 * i);
+        words[i] = crate::padding::message_words(messages, each, 64 * index + 4 * i);
     }
     'padded: for i in whole..16 {
         words[i] = padded_words(messages, each, 64 * index + 4 * i);

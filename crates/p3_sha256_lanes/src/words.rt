@@ -1,7 +1,7 @@
 // Four words side by side, and in each lane the operations and functions of FIPS 180-4 (3.2 and 4.1.2).
 ghost use Rattle.std.specs.Prelude.{◌≡◌, ◌-◌, ◌*◌, ◌/◌, ◌%◌, ◌^◌, ◌<◌, ℕ, slice_index};
 ghost use Rattle.std.specs.Prelude.{bit_and, bit_or, bit_xor};
-ghost use Rattle.std.specs.Int.{w32, rotate_right};
+ghost use Rattle.std.specs.Int.{w32, bit_not, rotate_right};
 ghost use Rattle.sha2.specs.Sha256.{add32, ch, maj, big_sigma0, big_sigma1, small_sigma0, small_sigma1};
 
 use std::simd::u32x4;
