@@ -1,7 +1,7 @@
 -- What stands in a lane of words, and in a block of a padded message.
-use Rattle.std.proofs.Common.{◌≡◌, ℕ, ◌+◌, ◌*◌, ◌%◌, ◌-◌, suc, zero, ◌<◌, ◌≤◌, ◌∙◌, sym, ap, arith, refl, List}
-use Rattle.std.proofs.Common.{[], ◌∷◌, ◌++◌, length, slice_index, slice_range, take, drop, replicate}
-use Rattle.std.proofs.lemmas.List.{get_or-map, get_or-take, get_or-drop, get_or-append_right}
+use Rattle.std.proofs.Common.{◌≡◌, ◌≢◌, ℕ, ◌+◌, ◌*◌, ◌%◌, ◌-◌, suc, zero, ◌<◌, ◌≤◌, ◌∙◌, sym, ap, arith, refl, List}
+use Rattle.std.proofs.Common.{[], ◌∷◌, ◌++◌, length, slice_index, slice_set, slice_range, take, drop, replicate}
+use Rattle.std.proofs.lemmas.List.{get_or-map, get_or-set_other, get_or-set_same, length-map, map-set, get_or-take, get_or-drop, get_or-append_right}
 use Rattle.std.proofs.lemmas.List.{length-append, length-replicate, length-take-le, length-drop}
 use Rattle.std.specs.Int.{w32, w64, from_be_bytes, to_be_bytes}
 use Rattle.sha2.specs.Sha256.{padded_message, padding, word_at}
@@ -12,6 +12,19 @@ use Rattle.p3_sha256_lanes.specs.Padding.{padded_length, padding_length, zero_co
 pub word_of_lane : (lane : ℕ) (words : List (List ℕ)) (i : ℕ) → i < length words
     → slice_index (words_in lane words) i ≡ word_in lane words i
 word_of_lane lane words i within = get_or-map (λ word. slice_index word lane) words i [] 0 within
+
+-- the word of a lane that was set
+pub words_in-set_same : (lane : ℕ) (words : List (List ℕ)) (i : ℕ) (word : List ℕ) → i < length words
+    → slice_index (words_in lane (slice_set words i word)) i ≡ slice_index word lane
+words_in-set_same lane words i word within =
+    let long : i < length (words_in lane words) = omega (arith, within, length-map words (λ x. slice_index x lane)) in
+    rw (map-set (λ x. slice_index x lane) words i word) (get_or-set_same (words_in lane words) i (slice_index word lane) 0 long)
+
+-- another word of the lane
+pub words_in-set_other : (lane : ℕ) (words : List (List ℕ)) (i k : ℕ) (word : List ℕ) → k ≢ i
+    → slice_index (words_in lane (slice_set words i word)) k ≡ slice_index (words_in lane words) k
+words_in-set_other lane words i k word other =
+    rw (map-set (λ x. slice_index x lane) words i word) (get_or-set_other (words_in lane words) i k (slice_index word lane) 0 other)
 
 -- a word of the eight, at a place that only the run knows
 pub word_of_state : (lane : ℕ) (words : List (List ℕ)) (i : ℕ) → i < 8

@@ -1,2 +1,3 @@
+mod ChMaj
 mod HashValues
 mod InLanes

@@ -35,7 +35,12 @@ fn block_words(messages: &[u8], each: usize, index: usize) -> [Words; 16]
         slice_index (words_in lane result) i ≡ word_at (take 64 (drop (index * 64) padded)) (4 * i) }
 {
     let mut words = [Words::splat(0); 16];
-    'words: for i in 0..16 {
+    // The words before the padding, and then those of it.
+    let whole = (each.saturating_sub(64 * index) / 4).min(16);
+    'whole: for i in 0..whole {
+        words[i] = crate::padding::message_words(messages, each, 64 * index + 4 * i);
+    }
+    'padded: for i in whole..16 {
         words[i] = padded_words(messages, each, 64 * index + 4 * i);
     }
     words
@@ -69,7 +74,7 @@ pub fn four_digests(messages: &[u8]) -> [[u8; 32]; 4]
     // After the message come the byte 0x80, the zeros, and 8 bytes of its length.
     let block_count = (each + zero_count(each) + 9) / 64;
     'each_block: for index in 0..block_count {
-        compress(&mut hash_values, block_words(messages, each, index));
+        compress(&mut hash_values, &block_words(messages, each, index));
     }
     [
         digest_in_lane(&hash_values, 0),

@@ -43,14 +43,6 @@ fn or(x: Words, y: Words) -> Words
 }
 
 #[inline(always)]
-fn not(x: Words) -> Words
-    ensures { (lane : ℕ) → lane < 4 →
-        slice_index result lane ≡ bit_not w32 (slice_index x lane) }
-{
-    !x
-}
-
-#[inline(always)]
 fn shifted_right(x: Words, bits: u32) -> Words
     requires { bits < 32 }
     ensures { (lane : ℕ) → lane < 4 →
@@ -78,20 +70,22 @@ fn rotated_right(x: Words, bits: u32) -> Words
     or(shifted_right(x, bits), shifted_left(x, 32 - bits))
 }
 
+// One operation fewer than the standard's form.
 #[inline(always)]
 pub(crate) fn ch(x: Words, y: Words, z: Words) -> Words
     ensures { (lane : ℕ) → lane < 4 →
         slice_index result lane ≡ ch (slice_index x lane) (slice_index y lane) (slice_index z lane) }
 {
-    xor(and(x, y), and(not(x), z))
+    xor(z, and(x, xor(y, z)))
 }
 
+// A round's `x ^ y` is the next round's `y ^ z`, so it is computed once.
 #[inline(always)]
 pub(crate) fn maj(x: Words, y: Words, z: Words) -> Words
     ensures { (lane : ℕ) → lane < 4 →
         slice_index result lane ≡ maj (slice_index x lane) (slice_index y lane) (slice_index z lane) }
 {
-    xor(xor(and(x, y), and(x, z)), and(y, z))
+    xor(y, and(xor(x, y), xor(y, z)))
 }
 
 #[inline(always)]
