@@ -8,16 +8,17 @@
 //! A protocol that is prepared is read once, and then serves many proofs. It is kept for as long as the program runs.
 #![tactic(auto)]
 
-ghost use Rattle.std.specs.Prelude.{◌≡◌, ◌<◌, ◌∷◌, [], ℕ, List, length, IfOk, IfErr};
-ghost use Rattle.std.specs.Borrow.{sem};
-ghost use Rattle.tealmuze_c.specs.Kept.{is_shared_at};
-ghost use Rattle.tealmuze_calls.specs.{Errors.IsDueTo, Written.{Answers, ByAnswer}};
+ghost use Rattle.std.specs.Prelude.{◌≡◌, ◌∷◌, [], ℕ, List, length, IfOk, IfErr, MatchOption};
+ghost use Rattle.std.specs.{Borrow.{sem}, Ptr.{as_ptr}};
+ghost use Rattle.tealmuze_c.specs.{Kept.is_shared_at, Told.IsPrepared};
+ghost use Rattle.tealmuze_calls.specs.{Errors.IsDueTo, Written.Answers};
 ghost use Rattle.tealmuze_calls.specs.contracts.prepared.Prepared.{the_row};
 
-use std::alloc::Global;
+use std::alloc::{AllocError, Global};
+use std::ptr::NonNull;
 use tealmuze_calls::{
-    Answer, CallsBySuite, Described, Prepared, Suites, Unanswered, prepare, prove, prove_prepared,
-    tell, verify, verify_prepared,
+    CallsBySuite, Described, Prepared, Suites, Unanswered, prepare, prove, prove_prepared, tell,
+    verify, verify_prepared,
 };
 
 /// Verifies a proof of the protocol that the description has, with the witnesses that its `observe_pow` steps are
@@ -78,31 +79,54 @@ pub extern "C" fn tealmuze_prepare(
     prepared: &mut *mut u8,
     answer: &mut [u8],
 ) -> usize
-    ensures { Answers (λ told. told ≡ 0 ∷ []) (⟦<Suites as CallsBySuite>⟧.is_described description.now)
+    ensures told { Answers (λ told. told ≡ 0 ∷ []) (⟦<Suites as CallsBySuite>⟧.is_described description.now)
         (λ wanted. wanted ≡ 1001) answer.old result answer.new }
+    ensures* kept { ∃ₛ (λ (it : Prepared). sem 𝓛 (is_shared_at the_row prepared.new it)
+        ∗ ⌜ ⟦<Prepared as Described>⟧.describes it description.now ⌝)
+        ∨ₛ ⌜ (IsPrepared result answer.new → ⊥) × (prepared.new ≡ prepared.old) ⌝ }
 {
-    let found = hand_out(alloc, description, prepared, answer.len());
-    tell(alloc, found, answer)
+    hand_out(alloc, description, prepared, answer).0
 }
 
-// Prepares a protocol, and hands out where it is kept.
+// Prepares a protocol, and hands out where it is kept. The number is that of the bytes of the answer.
 fn hand_out(
     alloc: Global,
     description: &'static [u8],
     prepared: &mut *mut u8,
-    room: usize,
-) -> Result<Answer, Unanswered>
-    ensures ok { IfOk result (ByAnswer (λ told. told ≡ 0 ∷ []) (λ wanted. (wanted ≡ 1001) × room < wanted)) }
+    answer: &mut [u8],
+) -> (usize, Option<&'static Prepared>)
+    ensures told { Answers (λ told. told ≡ 0 ∷ []) (⟦<Suites as CallsBySuite>⟧.is_described description.now)
+        (λ wanted. wanted ≡ 1001) answer.old result.0 answer.new }
+    ensures kept { MatchOption result.1 ((IsPrepared result.0 answer.new → ⊥) × (prepared.new ≡ prepared.old))
+        (λ it. ⟦<Prepared as Described>⟧.describes it.now description.now × (prepared.new ≡ as_ptr it)) }
+{
+    if answer.len() < PREPARED_ROOM {
+        return (PREPARED_ROOM, None);
+    }
+    match kept(alloc, description) {
+        Ok(it) => {
+            *prepared = NonNull::from_ref(it).cast::<u8>().as_ptr();
+            answer[0] = 0;
+            (1, Some(it))
+        }
+        Err(reason) => (tell(alloc, Err(reason), answer), None),
+    }
+}
+
+// Prepares a protocol, which is kept for as long as the program runs.
+fn kept(alloc: Global, description: &'static [u8]) -> Result<&'static Prepared, Unanswered>
+    ensures ok { IfOk result (λ it. ⟦<Prepared as Described>⟧.describes it.now description.now) }
     ensures err { IfErr result
         (IsDueTo (⟦<Suites as CallsBySuite>⟧.is_described description.now → ⊥)) }
 {
-    if room < PREPARED_ROOM {
-        return Ok(Answer::Wants(PREPARED_ROOM));
-    }
-    let found = prepare(alloc, description)?;
-    let told = Vec::from_slice(alloc, &[0u8])?;
-    *prepared = Box::into_raw(Box::new(alloc, found)?) as *mut u8;
-    Ok(Answer::Told(told))
+    let it = prepare(alloc, description)?;
+    Ok(keep(alloc, it)?)
+}
+
+fn keep<'a, T: Drop + 'a>(alloc: Global, value: T) -> Result<&'a T, AllocError>
+    ensures { IfOk result (λ it. it.now ≡ value) }
+{
+    Ok(Box::leak(Box::new(alloc, value)?))
 }
 
 /// Answers what `tealmuze_verify` does of a description that was prepared.
@@ -118,7 +142,7 @@ pub unsafe extern "C" fn tealmuze_verify_prepared(
 ) -> usize
     ghost read: { Prepared × List ℕ }
     requires described { ⟦<Prepared as Described>⟧.describes read.0 read.1 }
-    requires* kept { sem 𝓛 (is_shared_at the_row prepared read.0) }
+    requires* shared { sem 𝓛 (is_shared_at the_row prepared read.0) }
     ensures { Answers (⟦<Suites as CallsBySuite>⟧.tells_of_proof proof.now carried.now read.1)
         (⟦<Suites as CallsBySuite>⟧.asks_of_proof read.1 carried.now)
         (⟦<Suites as CallsBySuite>⟧.wants_room (length proof.now) read.1) answer.old result answer.new }
@@ -155,7 +179,7 @@ pub unsafe extern "C" fn tealmuze_prove_prepared(
 ) -> usize
     ghost read: { Prepared × List ℕ }
     requires described { ⟦<Prepared as Described>⟧.describes read.0 read.1 }
-    requires* kept { sem 𝓛 (is_shared_at the_row prepared read.0) }
+    requires* shared { sem 𝓛 (is_shared_at the_row prepared read.0) }
     ensures { Answers (⟦<Suites as CallsBySuite>⟧.tells_of_values values.now read.1)
         (⟦<Suites as CallsBySuite>⟧.asks_of_values read.1 values.now)
         (⟦<Suites as CallsBySuite>⟧.wants_room (length values.now) read.1) answer.old result answer.new }
