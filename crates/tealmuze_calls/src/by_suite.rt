@@ -43,7 +43,7 @@ impl CallsBySuite for Suites {
         (λ protocol unit. ⟦<Serializing64Suite<Keccak256Hasher> as Calls>⟧.is_described 1 protocol) ∷
         (λ protocol unit. ⟦<BabyBearPoseidon2Suite as Calls>⟧.is_described 1 protocol) ∷
         (λ protocol unit. ⟦<GoldilocksPoseidon2Suite as Calls>⟧.is_described 1 protocol) ∷
-        []) description tt };
+        []) description (tt {0}) };
 
     ghost tells_of_proof = { λ proof carried. BySuite (
         (⟦<HashSuite<Sha256Hasher> as Calls>⟧.tells_of_proof 1 proof carried) ∷
