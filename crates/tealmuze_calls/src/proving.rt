@@ -59,7 +59,9 @@ pub fn prove_prepared(
         Prepared::BabyBearBytesKeccak(protocol) => prove_protocol(alloc, protocol, values, room),
         Prepared::BabyBearElementsKeccak(protocol) => prove_protocol(alloc, protocol, values, room),
         Prepared::GoldilocksElements(protocol) => prove_protocol(alloc, protocol, values, room),
-        Prepared::GoldilocksElementsKeccak(protocol) => prove_protocol(alloc, protocol, values, room),
+        Prepared::GoldilocksElementsKeccak(protocol) => prove_protocol(
+            alloc, protocol, values, room,
+        ),
         Prepared::BabyBearPoseidon2(protocol) => prove_protocol(alloc, protocol, values, room),
         Prepared::GoldilocksPoseidon2(protocol) => prove_protocol(alloc, protocol, values, room),
     }

@@ -56,13 +56,27 @@ pub fn verify_prepared(
 {
     match prepared {
         Prepared::BabyBearBytes(protocol) => verify_protocol(alloc, protocol, proof, carried, room),
-        Prepared::BabyBearElements(protocol) => verify_protocol(alloc, protocol, proof, carried, room),
-        Prepared::BabyBearBytesKeccak(protocol) => verify_protocol(alloc, protocol, proof, carried, room),
-        Prepared::BabyBearElementsKeccak(protocol) => verify_protocol(alloc, protocol, proof, carried, room),
-        Prepared::GoldilocksElements(protocol) => verify_protocol(alloc, protocol, proof, carried, room),
-        Prepared::GoldilocksElementsKeccak(protocol) => verify_protocol(alloc, protocol, proof, carried, room),
-        Prepared::BabyBearPoseidon2(protocol) => verify_protocol(alloc, protocol, proof, carried, room),
-        Prepared::GoldilocksPoseidon2(protocol) => verify_protocol(alloc, protocol, proof, carried, room),
+        Prepared::BabyBearElements(protocol) => verify_protocol(
+            alloc, protocol, proof, carried, room,
+        ),
+        Prepared::BabyBearBytesKeccak(protocol) => verify_protocol(
+            alloc, protocol, proof, carried, room,
+        ),
+        Prepared::BabyBearElementsKeccak(protocol) => verify_protocol(
+            alloc, protocol, proof, carried, room,
+        ),
+        Prepared::GoldilocksElements(protocol) => verify_protocol(
+            alloc, protocol, proof, carried, room,
+        ),
+        Prepared::GoldilocksElementsKeccak(protocol) => verify_protocol(
+            alloc, protocol, proof, carried, room,
+        ),
+        Prepared::BabyBearPoseidon2(protocol) => verify_protocol(
+            alloc, protocol, proof, carried, room,
+        ),
+        Prepared::GoldilocksPoseidon2(protocol) => verify_protocol(
+            alloc, protocol, proof, carried, room,
+        ),
     }
 }
 
