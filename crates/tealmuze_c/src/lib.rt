@@ -187,12 +187,7 @@ pub unsafe extern "C" fn tealmuze_prove_prepared(
     prove_kept(&*(prepared as *mut Prepared), alloc, values, answer)
 }
 
-fn prove_kept(
-    prepared: &'static Prepared,
-    alloc: Global,
-    values: &[u8],
-    answer: &mut [u8],
-) -> usize
+fn prove_kept(prepared: &'static Prepared, alloc: Global, values: &[u8], answer: &mut [u8]) -> usize
     requires { (description : List ℕ) × ⟦<Prepared as Described>⟧.describes prepared.now description }
     ensures { (description : List ℕ) → ⟦<Prepared as Described>⟧.describes prepared.now description →
         Answers (⟦<Suites as CallsBySuite>⟧.tells_of_values values.now description)
