@@ -1,4 +1,5 @@
-/* Proves two bytes and verifies the proof: cc example.c -ltealmuze_c. Returns 0 where all is as it should be. */
+/* Proves two bytes and verifies the proof, and then a cut one with the protocol prepared: cc example.c -ltealmuze_c.
+ * Returns 0 where all is as it should be. */
 #include "tealmuze.h"
 #include <stdio.h>
 #include <string.h>
@@ -25,7 +26,10 @@ int main(void) {
     printf("verdict %d, bytes %.2s\n", answer[0], (const char *)answer + 18);
     if (answer[0] != TEALMUZE_DONE || memcmp(answer + 18, "hi", 2) != 0) return 1;
 
-    size_t refused = tealmuze_verify(DESCRIPTION, sizeof DESCRIPTION, proof, 1, none, 0, answer, sizeof answer);
+    tealmuze_prepared *prepared;
+    tealmuze_prepare(DESCRIPTION, sizeof DESCRIPTION, &prepared, answer, sizeof answer);
+    if (answer[0] != TEALMUZE_DONE) return 1;
+    size_t refused = tealmuze_verify_prepared(prepared, proof, 1, none, 0, answer, sizeof answer);
     printf("verdict %d at step %d: %.*s\n", answer[0], answer[1], (int)(refused - 9), (const char *)answer + 9);
     return answer[0] == TEALMUZE_REFUSED && answer[1] == 0 ? 0 : 1;
 }

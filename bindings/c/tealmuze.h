@@ -8,18 +8,19 @@
  * how many numbers it has, and these.
  *
  * An answer's first byte:
- *   0  accepted, or proved: what docs/BINDINGS.md says stands after it
+ *   0  accepted, proved or prepared: what docs/BINDINGS.md says stands after it
  *   1  refused: the position of the step (a number), and the reason, as text up to the end, of 1000 bytes at most
  *   2  nothing was asked that can be answered: why, as text up to the end, of 1000 bytes at most
  *   3  memory ran out: nothing stands after it
  *
  * A call writes its answer into `answer` and returns how many bytes it has. Where it returns more than `answer_len`, it
- * wrote nothing, and verified or proved nothing yet: give that many bytes and call again.
+ * wrote nothing, and verified, proved or prepared nothing yet: give that many bytes and call again.
  *
  * The caller promises: each pointer leads to as many elements as the count after it says, which the call may read, or for
- * `answer` write; no pointer is NULL, also where the count is 0; and `description` is not changed while the call runs.
- * (The contract asks that it lasts as long as the program. Nothing is kept of it once a call has returned, which is not
- * proved.) Calls may run in several threads at once, if malloc may. */
+ * `answer` write; what may be written overlaps nothing else that is passed; no pointer is NULL, also where the count is 0;
+ * and `description` is not changed while the call runs, or, where tealmuze_prepare answered 0, as long as the program runs.
+ * (The contracts ask that each description lasts as long as the program. Nothing is kept of one that is not prepared once a
+ * call has returned, which is not proved.) Calls may run in several threads at once, if malloc may. */
 #ifndef TEALMUZE_H
 #define TEALMUZE_H
 
@@ -43,6 +44,30 @@ size_t tealmuze_verify(const uint8_t *description, size_t description_len,
 size_t tealmuze_prove(const uint8_t *description, size_t description_len,
                       const uint8_t *values, size_t values_len,
                       uint8_t *answer, size_t answer_len);
+
+/* A protocol that is prepared for many proofs. Several threads may call with one at once. */
+typedef struct tealmuze_prepared tealmuze_prepared;
+
+/* Prepares a protocol for many proofs: its description is read and its pattern made, once. The answer is 0 alone, and
+ * *prepared a pointer for the two calls below; or 2 and why, or 3, and *prepared is unchanged. It has 1001 bytes at most.
+ *
+ * What is prepared is kept as long as the program runs: prepare each protocol once, and not once for each proof. */
+size_t tealmuze_prepare(const uint8_t *description, size_t description_len,
+                        tealmuze_prepared **prepared,
+                        uint8_t *answer, size_t answer_len);
+
+/* Verifies a proof, and answers as tealmuze_verify does with the description that was prepared. `prepared` is a pointer
+ * that tealmuze_prepare wrote. */
+size_t tealmuze_verify_prepared(tealmuze_prepared *prepared,
+                                const uint8_t *proof, size_t proof_len,
+                                const uint64_t *carried, size_t carried_len,
+                                uint8_t *answer, size_t answer_len);
+
+/* Proves values, and answers as tealmuze_prove does with the description that was prepared. `prepared` is a pointer that
+ * tealmuze_prepare wrote. */
+size_t tealmuze_prove_prepared(tealmuze_prepared *prepared,
+                               const uint8_t *values, size_t values_len,
+                               uint8_t *answer, size_t answer_len);
 
 #ifdef __cplusplus
 }

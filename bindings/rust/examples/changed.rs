@@ -1,28 +1,11 @@
-//! Random and changed descriptions, proofs and values, so many as the argument says: each call has to give a named answer, and to
-//! write nothing beyond it. `cargo run --release --example changed 100000`, and once under valgrind with fewer.
+//! Random and changed descriptions, proofs and values, so many as the argument says: each call has to give a named answer, to
+//! write nothing beyond it, and to answer the same with the protocol prepared. `cargo run --release --example changed 100000`,
+//! and once under valgrind with fewer.
+use std::ptr::{self, NonNull};
 use tealmuze::{Kind, Protocol, Step, Suite};
 
-unsafe extern "C" {
-    fn tealmuze_verify(
-        description: *const u8,
-        description_len: usize,
-        proof: *const u8,
-        proof_len: usize,
-        carried: *const u64,
-        carried_len: usize,
-        answer: *mut u8,
-        answer_len: usize,
-    ) -> usize;
-
-    fn tealmuze_prove(
-        description: *const u8,
-        description_len: usize,
-        values: *const u8,
-        values_len: usize,
-        answer: *mut u8,
-        answer_len: usize,
-    ) -> usize;
-}
+#[path = "../src/library.rs"]
+mod library;
 
 const ROOM: usize = 1 << 16;
 const UNWRITTEN: u8 = 0xa5;
@@ -66,61 +49,124 @@ impl Chance {
     }
 }
 
-// What a call answered: its first byte, or 4 where it wants more room. Exactly sized blocks show valgrind what is read past.
-fn answered(room: usize, call: impl Fn(*mut u8, usize) -> usize) -> usize {
+// What a call returned and answered: no bytes where it wants more room.
+#[derive(Debug, PartialEq, Eq)]
+struct Told {
+    wanted: usize,
+    answer: Vec<u8>,
+}
+
+impl Told {
+    // The first byte, or 4 where more room is wanted.
+    fn verdict(&self) -> usize {
+        self.answer.first().map_or(4, |it| usize::from(*it))
+    }
+}
+
+// What a call tells. Exactly sized blocks show valgrind what is read past.
+fn told(room: usize, call: impl FnOnce(*mut u8, usize) -> usize) -> Told {
     let mut answer = vec![UNWRITTEN; room].into_boxed_slice();
     let wanted = call(answer.as_mut_ptr(), room);
-    let told = if wanted <= room { wanted } else { 0 };
+    let (answer, left) = answer.split_at(if wanted <= room { wanted } else { 0 });
     assert!(
-        answer[told..].iter().all(|it| *it == UNWRITTEN),
-        "written beyond {told} of {wanted} bytes"
+        left.iter().all(|it| *it == UNWRITTEN),
+        "written beyond {} of {wanted} bytes",
+        answer.len()
     );
-    if wanted > room {
-        return 4;
+    match answer {
+        [] => assert!(wanted > room),
+        [0] | [3] => {}
+        [0 | 2, _, ..] => {}
+        [1, rest @ ..] => assert!(rest.len() > 8),
+        other => panic!("{other:?}"),
     }
-    match answer[0] {
-        verdict @ (0 | 2) => assert!(wanted > 1, "{verdict}"),
-        1 => assert!(wanted > 9),
-        3 => assert!(wanted == 1),
-        other => panic!("verdict {other}"),
-    }
-    answer[0].into()
+    let answer = answer.to_vec();
+    Told { wanted, answer }
 }
 
-fn verify(description: &[u8], proof: &[u8], carried: &[u64], room: usize) -> usize {
-    answered(room, |answer, len| unsafe {
-        tealmuze_verify(
+// What is asked: of a description's bytes, or of what is prepared.
+#[derive(Clone, Copy)]
+enum Asked<'a> {
+    Described(&'a [u8]),
+    Prepared(NonNull<u8>),
+}
+
+impl Asked<'_> {
+    fn verify(self, proof: &[u8], carried: &[u64], room: usize) -> Told {
+        told(room, |answer, room| match self {
+            Asked::Described(description) => unsafe {
+                library::tealmuze_verify(
+                    description.as_ptr(),
+                    description.len(),
+                    proof.as_ptr(),
+                    proof.len(),
+                    carried.as_ptr(),
+                    carried.len(),
+                    answer,
+                    room,
+                )
+            },
+            Asked::Prepared(prepared) => unsafe {
+                library::tealmuze_verify_prepared(
+                    prepared.as_ptr(),
+                    proof.as_ptr(),
+                    proof.len(),
+                    carried.as_ptr(),
+                    carried.len(),
+                    answer,
+                    room,
+                )
+            },
+        })
+    }
+
+    fn prove(self, values: &[u8], room: usize) -> Told {
+        told(room, |answer, room| match self {
+            Asked::Described(description) => unsafe {
+                library::tealmuze_prove(
+                    description.as_ptr(),
+                    description.len(),
+                    values.as_ptr(),
+                    values.len(),
+                    answer,
+                    room,
+                )
+            },
+            Asked::Prepared(prepared) => unsafe {
+                library::tealmuze_prove_prepared(
+                    prepared.as_ptr(),
+                    values.as_ptr(),
+                    values.len(),
+                    answer,
+                    room,
+                )
+            },
+        })
+    }
+}
+
+// What is prepared of a copy of a description, or why it is refused.
+fn prepare(description: &[u8]) -> Result<NonNull<u8>, Told> {
+    let description: &'static [u8] = description.to_vec().leak();
+    let mut kept = ptr::null_mut();
+    let told = told(1001, |answer, room| unsafe {
+        library::tealmuze_prepare(
             description.as_ptr(),
             description.len(),
-            proof.as_ptr(),
-            proof.len(),
-            carried.as_ptr(),
-            carried.len(),
+            &mut kept,
             answer,
-            len,
+            room,
         )
-    })
+    });
+    match NonNull::new(kept) {
+        Some(kept) if told.answer == [0] => Ok(kept),
+        None if told.verdict() != 0 => Err(told),
+        _ => panic!("{told:?}, {kept:?}"),
+    }
 }
 
-fn prove(description: &[u8], values: &[u8], room: usize) -> usize {
-    answered(room, |answer, len| unsafe {
-        tealmuze_prove(
-            description.as_ptr(),
-            description.len(),
-            values.as_ptr(),
-            values.len(),
-            answer,
-            len,
-        )
-    })
-}
-
-fn main() {
-    let count = std::env::args()
-        .nth(1)
-        .map_or(100_000, |it| it.parse().unwrap());
-    let mut chance = Chance(0x9e37_79b9_7f4a_7c15);
-    let demo = Protocol::builder(Suite::BabyBearElements, 2, "demo")
+fn demo() -> Vec<u8> {
+    Protocol::builder(Suite::BabyBearElements, 2, "demo")
         .instance(b"example")
         .step("demo", Step::Begin(Kind::Protocol))
         .step("inputs", Step::PublicScalarsBounded(4, vec![9]))
@@ -131,9 +177,12 @@ fn main() {
         .step("note", Step::HintBounded(16))
         .step("indices", Step::ChallengeUniformBits { width: 4, n: 2 })
         .step("demo", Step::End(Kind::Protocol))
-        .description();
+        .description()
+}
+
+fn values() -> Vec<u8> {
     let number = |it: u64| it.to_le_bytes();
-    let values = [
+    [
         &number(3)[..],
         &[0],
         &number(8),
@@ -146,29 +195,74 @@ fn main() {
         &number(2),
         b"hi",
     ]
-    .concat();
-    let mut verdicts = [[0u64; 5]; 2];
-    for i in 0..count {
+    .concat()
+}
+
+// What is asked in a round, and how much room is given.
+struct Round {
+    description: Vec<u8>,
+    proof: Vec<u8>,
+    sent: Vec<u8>,
+    carried: Vec<u64>,
+    room: usize,
+}
+
+impl Round {
+    fn new(i: usize, chance: &mut Chance, demo: &[u8], values: &[u8]) -> Round {
         let description = match i % 4 {
             0 => chance.bytes(200),
             1 => [&[chance.below(3) as u8][..], &chance.bytes(200)].concat(),
-            2 => chance.changed(&demo),
-            _ => demo.clone(),
+            2 => chance.changed(demo),
+            _ => demo.to_vec(),
         };
-        let proof = if i % 8 < 4 {
-            chance.changed(&PROOF)
+        let (proof, sent) = if i % 8 < 4 {
+            (chance.changed(&PROOF), chance.changed(values))
         } else {
-            PROOF.to_vec()
+            (PROOF.to_vec(), values.to_vec())
         };
-        let sent = if i % 8 < 4 {
-            chance.changed(&values)
-        } else {
-            values.clone()
+        Round {
+            description,
+            proof,
+            sent,
+            carried: (0..chance.below(8) / 6).map(|_| chance.next()).collect(),
+            room: if i % 5 == 0 { chance.below(2048) } else { ROOM },
+        }
+    }
+
+    // What the call that verifies tells, and the one that proves.
+    fn told(&self, asked: Asked, room: usize) -> [Told; 2] {
+        [
+            asked.verify(&self.proof, &self.carried, room),
+            asked.prove(&self.sent, room),
+        ]
+    }
+}
+
+fn main() {
+    let count = std::env::args()
+        .nth(1)
+        .map_or(100_000, |it| it.parse().unwrap());
+    let mut chance = Chance(0x9e37_79b9_7f4a_7c15);
+    let (demo, values) = (demo(), values());
+    // once for all rounds, since what is prepared is never freed
+    let demo_prepared = prepare(&demo).unwrap();
+    let mut verdicts = [[0u64; 5]; 2];
+    for i in 0..count {
+        let round = Round::new(i, &mut chance, &demo, &values);
+        let described = Asked::Described(&round.description);
+        let told = round.told(described, round.room);
+        for (counts, told) in verdicts.iter_mut().zip(&told) {
+            assert_ne!(told.answer, [0]);
+            counts[told.verdict()] += 1;
+        }
+        let prepared = match i % 4 {
+            3 => Ok(demo_prepared),
+            _ => prepare(&round.description),
         };
-        let carried: Vec<u64> = (0..chance.below(8) / 6).map(|_| chance.next()).collect();
-        let room = if i % 5 == 0 { chance.below(2048) } else { ROOM };
-        verdicts[0][verify(&description, &proof, &carried, room)] += 1;
-        verdicts[1][prove(&description, &sent, room)] += 1;
+        match prepared {
+            Ok(it) => assert_eq!(round.told(Asked::Prepared(it), round.room), told),
+            Err(refusal) => assert!(round.told(described, ROOM).iter().all(|it| *it == refusal)),
+        }
     }
     println!(
         "verified: accepted, refused, unasked, out of memory, room: {:?}",

@@ -1,31 +1,8 @@
-//! The calls of the static library.
+//! The calls, and what their answers tell.
+use crate::library::{tealmuze_prove, tealmuze_verify};
 use crate::value::{encoded, Challenge, Reader, Value};
 use crate::{Error, Protocol};
 use alloc::{string::String, vec::Vec};
-
-// As `crates/tealmuze_c/src/lib.rt` has them, which `tools/bindings` compares: a slice crosses as a pointer and a count, and a
-// `Global` as nothing.
-unsafe extern "C" {
-    fn tealmuze_verify(
-        description: *const u8,
-        description_len: usize,
-        proof: *const u8,
-        proof_len: usize,
-        carried: *const u64,
-        carried_len: usize,
-        answer: *mut u8,
-        answer_len: usize,
-    ) -> usize;
-
-    fn tealmuze_prove(
-        description: *const u8,
-        description_len: usize,
-        values: *const u8,
-        values_len: usize,
-        answer: *mut u8,
-        answer_len: usize,
-    ) -> usize;
-}
 
 /// What a verifier that accepted a proof has received and drawn.
 #[derive(Clone, Debug, PartialEq, Eq)]
@@ -52,9 +29,11 @@ pub struct Proved {
 // More room than this is not given: an answer that may have as many bytes draws or carries too much.
 const MOST_ROOM: usize = 1 << 30;
 
-// Calls with enough room for the answer. With too little a call plays nothing and says how much it wants.
-fn answered(bytes: usize, mut call: impl FnMut(&mut [u8]) -> usize) -> Result<Vec<u8>, Error> {
-    let mut room = bytes.saturating_mul(8).saturating_add(2048);
+/// Calls with this much room for the answer. With too little a call plays nothing and says how much it wants.
+pub(crate) fn answered(
+    mut room: usize,
+    mut call: impl FnMut(&mut [u8]) -> usize,
+) -> Result<Vec<u8>, Error> {
     while room <= MOST_ROOM {
         let mut answer = Vec::new();
         answer
@@ -71,8 +50,19 @@ fn answered(bytes: usize, mut call: impl FnMut(&mut [u8]) -> usize) -> Result<Ve
     Err(Error::OutOfMemory)
 }
 
-// What stands after the first byte, where that says that all went well.
-fn told(answer: &[u8]) -> Result<&[u8], Error> {
+/// The room for an answer to so many bytes of a proof or of values, where one to no bytes has this much: the library wants 8
+/// for each.
+pub(crate) fn room_for(bytes: usize, for_none: usize) -> usize {
+    for_none.saturating_add(bytes.saturating_mul(8))
+}
+
+// The room that is given first where nothing is known of the description. Many steps or draws want more.
+fn first_room(bytes: usize) -> usize {
+    room_for(bytes, 2048)
+}
+
+/// What stands after the first byte, where that says that all went well.
+pub(crate) fn told(answer: &[u8]) -> Result<&[u8], Error> {
     match answer {
         [0, told @ ..] => Ok(told),
         [1, told @ ..] => match told.split_first_chunk() {
@@ -92,15 +82,20 @@ fn text(bytes: &[u8]) -> String {
     String::from_utf8_lossy(bytes).into_owned()
 }
 
-// The library answers no such bytes, as its contract says.
-fn unread() -> Error {
+/// The library answers no such bytes, as its contract says.
+pub(crate) fn unread() -> Error {
     Error::Malformed(String::from("an answer that is none"))
 }
 
-// What an answer tells of a proof that was accepted.
-fn verified(protocol: &Protocol, answer: &[u8]) -> Result<Verified, Error> {
+/// What a call that verifies a proof tells, with this much room for the answer.
+pub(crate) fn verified(
+    protocol: &Protocol,
+    room: usize,
+    call: impl FnMut(&mut [u8]) -> usize,
+) -> Result<Verified, Error> {
+    let answer = answered(room, call)?;
     let mut from = Reader {
-        left: told(answer)?,
+        left: told(&answer)?,
         degree: protocol.degree(),
     };
     (|| {
@@ -114,10 +109,15 @@ fn verified(protocol: &Protocol, answer: &[u8]) -> Result<Verified, Error> {
     .ok_or_else(unread)
 }
 
-// What an answer tells of values that were proved.
-fn proved(protocol: &Protocol, answer: &[u8]) -> Result<Proved, Error> {
+/// What a call that proves values tells, with this much room for the answer.
+pub(crate) fn proved(
+    protocol: &Protocol,
+    room: usize,
+    call: impl FnMut(&mut [u8]) -> usize,
+) -> Result<Proved, Error> {
+    let answer = answered(room, call)?;
     let mut from = Reader {
-        left: told(answer)?,
+        left: told(&answer)?,
         degree: protocol.degree(),
     };
     (|| {
@@ -136,9 +136,11 @@ fn proved(protocol: &Protocol, answer: &[u8]) -> Result<Proved, Error> {
 }
 
 /// Verifies a proof of a protocol, with the witnesses that the caller carries to its `ObservePow` steps.
+///
+/// Each call reads the description. For many proofs of one protocol [`Protocol::prepare`] reads it once.
 pub fn verify(protocol: &Protocol, proof: &[u8], carried: &[u64]) -> Result<Verified, Error> {
     let description = protocol.description();
-    let answer = answered(proof.len(), |answer| {
+    verified(protocol, first_room(proof.len()), |answer| {
         // SAFETY: each pointer and count are those of a slice that is borrowed for the call, the description's for good; the
         // declaration is the library's, which requires nothing else.
         unsafe {
@@ -153,15 +155,16 @@ pub fn verify(protocol: &Protocol, proof: &[u8], carried: &[u64]) -> Result<Veri
                 answer.len(),
             )
         }
-    })?;
-    verified(protocol, &answer)
+    })
 }
 
 /// Proves a protocol with the values that its steps send, in order. Witnesses are found.
+///
+/// Each call reads the description. For many proofs of one protocol [`Protocol::prepare`] reads it once.
 pub fn prove(protocol: &Protocol, values: &[Value]) -> Result<Proved, Error> {
     let description = protocol.description();
     let values = encoded(values);
-    let answer = answered(values.len(), |answer| {
+    proved(protocol, first_room(values.len()), |answer| {
         // SAFETY: as of `verify`.
         unsafe {
             tealmuze_prove(
@@ -173,6 +176,5 @@ pub fn prove(protocol: &Protocol, values: &[Value]) -> Result<Proved, Error> {
                 answer.len(),
             )
         }
-    })?;
-    proved(protocol, &answer)
+    })
 }

@@ -18,6 +18,9 @@
 //! assert_eq!(verified.challenges, proved.challenges);
 //! # Ok::<(), tealmuze::Error>(())
 //! ```
+//!
+//! Each of these calls reads the protocol's description and makes its pattern. For many proofs of one protocol,
+//! [`Protocol::prepare`] does that once, and keeps it for as long as the program runs: [`Prepared`].
 #![no_std]
 #![deny(missing_docs)]
 
@@ -25,10 +28,13 @@ extern crate alloc;
 
 mod call;
 mod error;
+mod library;
+mod prepared;
 mod protocol;
 mod value;
 
 pub use call::{prove, verify, Proved, Verified};
 pub use error::Error;
+pub use prepared::Prepared;
 pub use protocol::{Builder, Kind, Protocol, Step, Suite};
 pub use value::{Challenge, Value};

@@ -156,7 +156,8 @@ pub(crate) fn put_number(to: &mut Vec<u8>, number: u64) {
     to.extend_from_slice(&number.to_le_bytes());
 }
 
-/// A protocol: a description, which the library reads at each call. That it is one the calls say.
+/// A protocol: a description, which the library reads at each call, or once where it is [prepared](Protocol::prepare). That
+/// it is one the calls say.
 #[derive(Clone, Copy, Debug, PartialEq, Eq)]
 pub struct Protocol {
     description: &'static [u8],

@@ -1,5 +1,9 @@
-//! The demo protocol: its proof, hostile ones, and what is no description.
-use std::fs;
+//! The demo protocol: its proof, hostile ones, and what is no description. All of it is
+//! also asked of prepared protocols.
+mod both;
+
+use both::Both;
+use std::{fs, thread};
 use tealmuze::{Builder, Challenge, Error, Kind, Protocol, Step, Suite, Value};
 
 const PROOF: [u8; 24] =
@@ -41,11 +45,11 @@ fn hex(digits: &str) -> Vec<u8> {
 
 #[test]
 fn proved_and_verified() {
-    let demo = demo().build();
-    let proved = tealmuze::prove(&demo, &values()).unwrap();
+    let demo = Both::of(demo().build());
+    let proved = demo.prove(&values()).unwrap();
     assert_eq!(proved.proof, PROOF);
     assert_eq!((proved.witnesses, proved.carried), (vec![54], vec![]));
-    let verified = tealmuze::verify(&demo, &PROOF, &[]).unwrap();
+    let verified = demo.verify(&PROOF, &[]).unwrap();
     assert_eq!(verified.challenges, proved.challenges);
     assert_eq!(verified.challenges[0], Challenge::Scalars(vec![474253614]));
     let mut received = values();
@@ -55,7 +59,7 @@ fn proved_and_verified() {
 
 #[test]
 fn hostile_rows() {
-    let demo = demo().build();
+    let demo = Both::of(demo().build());
     let path = concat!(
         env!("CARGO_MANIFEST_DIR"),
         "/../../crates/tealmuze/cases/hostile.tsv"
@@ -66,7 +70,7 @@ fn hostile_rows() {
         let [_, proof, position, _, _, _, reason] = row.split('\t').collect::<Vec<_>>()[..] else {
             panic!("{row}")
         };
-        let told = refused(tealmuze::verify(&demo, &hex(proof), &[]).unwrap_err());
+        let told = refused(demo.verify(&hex(proof), &[]).unwrap_err());
         assert_eq!(
             told,
             (position.parse().unwrap(), reason.to_string()),
@@ -79,21 +83,20 @@ fn hostile_rows() {
 
 #[test]
 fn each_cut_and_each_byte_more() {
-    let demo = demo().build();
+    let demo = Both::of(demo().build());
     for len in 0..PROOF.len() {
-        refused(tealmuze::verify(&demo, &PROOF[..len], &[]).unwrap_err());
+        refused(demo.verify(&PROOF[..len], &[]).unwrap_err());
     }
     let more = [&PROOF[..], &[0]].concat();
-    assert_eq!(
-        refused(tealmuze::verify(&demo, &more, &[]).unwrap_err()).0,
-        9
-    );
+    assert_eq!(refused(demo.verify(&more, &[]).unwrap_err()).0, 9);
 }
 
 // A description that is none, and what is said of it.
 fn malformed(description: Vec<u8>) -> String {
-    let protocol = Protocol::from_static(description.leak());
-    match tealmuze::verify(&protocol, &PROOF, &[]).unwrap_err() {
+    let none = Both::of(Protocol::from_static(description.leak()));
+    let error = none.verify(&PROOF, &[]).unwrap_err();
+    assert_eq!(none.prepared.unwrap_err(), error);
+    match error {
         Error::Malformed(reason) => reason,
         other => panic!("{other}"),
     }
@@ -151,9 +154,8 @@ fn descriptions_that_are_none() {
 
 #[test]
 fn what_is_handed_or_carried_wrong() {
-    let demo = demo().build();
-    let wrong =
-        |values: &[Value]| matches!(tealmuze::prove(&demo, values), Err(Error::Malformed(_)));
+    let demo = Both::of(demo().build());
+    let wrong = |values: &[Value]| matches!(demo.prove(values), Err(Error::Malformed(_)));
     assert!(wrong(&[]));
     assert!(wrong(&values()[..2]));
     assert!(wrong(&[
@@ -167,7 +169,7 @@ fn what_is_handed_or_carried_wrong() {
         values()[2].clone()
     ]));
     assert!(matches!(
-        tealmuze::verify(&demo, &PROOF, &[1]),
+        demo.verify(&PROOF, &[1]),
         Err(Error::Malformed(_))
     ));
     let many = [
@@ -175,7 +177,7 @@ fn what_is_handed_or_carried_wrong() {
         Value::Scalars(vec![0; 5]),
         values()[2].clone(),
     ];
-    assert_eq!(refused(tealmuze::prove(&demo, &many).unwrap_err()).0, 3);
+    assert_eq!(refused(demo.prove(&many).unwrap_err()).0, 3);
 }
 
 #[test]
@@ -183,7 +185,7 @@ fn a_draw_too_large_for_any_room() {
     let large = Protocol::builder(Suite::BabyBearElements, 1, "large")
         .step("x", Step::ChallengeScalars(u64::MAX))
         .build();
-    assert_eq!(tealmuze::verify(&large, &[], &[]), Err(Error::OutOfMemory));
+    assert_eq!(Both::of(large).verify(&[], &[]), Err(Error::OutOfMemory));
 }
 
 #[test]
@@ -191,7 +193,7 @@ fn many_values_want_more_room_than_is_given_first() {
     let many = Protocol::builder(Suite::BabyBearElements, 1, "many")
         .step("x", Step::ChallengeScalars(10_000))
         .build();
-    let [Challenge::Scalars(drawn)] = &tealmuze::verify(&many, &[], &[]).unwrap().challenges[..]
+    let [Challenge::Scalars(drawn)] = &Both::of(many).verify(&[], &[]).unwrap().challenges[..]
     else {
         panic!()
     };
@@ -200,11 +202,29 @@ fn many_values_want_more_room_than_is_given_first() {
 
 #[test]
 fn threads() {
-    let demo = demo().build();
-    std::thread::scope(|scope| {
+    let demo = Both::of(demo().build());
+    thread::scope(|scope| {
+        for _ in 0..4 {
+            scope.spawn(|| (0..500).for_each(|_| assert!(demo.verify(&PROOF, &[]).is_ok())));
+        }
+    });
+}
+
+// Each thread proves, accepts and refuses, so that calls of all kinds run at once.
+#[test]
+fn one_prepared_protocol_in_several_threads() {
+    let prepared = demo().build().prepare().unwrap();
+    let proved = prepared.prove(&values()).unwrap();
+    let verified = prepared.verify(&PROOF, &[]).unwrap();
+    let cut = prepared.verify(&PROOF[..20], &[]).unwrap_err();
+    thread::scope(|scope| {
         for _ in 0..4 {
             scope.spawn(|| {
-                (0..500).for_each(|_| assert!(tealmuze::verify(&demo, &PROOF, &[]).is_ok()))
+                for _ in 0..200 {
+                    assert_eq!(prepared.prove(&values()).unwrap(), proved);
+                    assert_eq!(prepared.verify(&PROOF, &[]).unwrap(), verified);
+                    assert_eq!(prepared.verify(&PROOF[..20], &[]).unwrap_err(), cut);
+                }
             });
         }
     });

@@ -1,4 +1,8 @@
-//! Plays what the Rust crate answered, row by row: the repository's files of rows, which `docs/VECTORS.md` describes.
+//! Plays what the Rust crate answered, row by row: the repository's files of rows, which `docs/VECTORS.md` describes. Each is
+//! also played with the protocol prepared.
+mod both;
+
+use both::Both;
 use std::fs;
 use tealmuze::{Builder, Challenge, Error, Kind, Protocol, Step, Suite, Value};
 
@@ -152,7 +156,7 @@ fn step(words: &[&str], degree: usize) -> Option<(Step, Option<Value>)> {
 
 // A row: the protocol, the values, what stands after the steps, and the answer.
 struct Row<'a> {
-    protocol: Protocol,
+    protocol: Both,
     values: Vec<Value>,
     after: Vec<(&'a str, &'a str)>,
     answer: &'a str,
@@ -180,7 +184,7 @@ fn row(line: &str) -> Option<Row<'_>> {
         values.extend(value);
     }
     Some(Row {
-        protocol: builder.build(),
+        protocol: Both::of(builder.build()),
         values,
         after,
         answer,
@@ -239,7 +243,7 @@ fn refusal(error: Error) -> String {
 }
 
 fn check_prover(row: &Row<'_>, prover: &str) -> (Vec<u8>, Vec<u64>) {
-    match tealmuze::prove(&row.protocol, &row.values) {
+    match row.protocol.prove(&row.values) {
         Ok(proved) => {
             assert_eq!(proved.proof, hex(&words_after("wire", prover).concat()));
             assert_eq!(drawn(&proved.challenges), words_after("draws", prover));
@@ -262,7 +266,7 @@ fn check_prover(row: &Row<'_>, prover: &str) -> (Vec<u8>, Vec<u64>) {
 fn check(row: &Row<'_>) {
     if row.answer == "not admitted" {
         assert!(matches!(
-            tealmuze::verify(&row.protocol, &[], &[]),
+            row.protocol.verify(&[], &[]),
             Err(Error::Malformed(_))
         ));
         return;
@@ -275,7 +279,7 @@ fn check(row: &Row<'_>) {
     if let Some((_, given)) = row.after.iter().find(|it| it.0 == "carried") {
         carried = numbers(&given.split_whitespace().collect::<Vec<_>>());
     }
-    match tealmuze::verify(&row.protocol, &changed(proof, &row.after), &carried) {
+    match row.protocol.verify(&changed(proof, &row.after), &carried) {
         Ok(verified) => {
             let wanted = verifier.strip_prefix("accepted").expect(verifier);
             let wanted = wanted

@@ -4,13 +4,22 @@
 //! Rust crate that callers use. A slice crosses as a pointer and a count. Each call writes its answer into the caller's
 //! bytes and returns how many bytes the answer has. Where they are more than the caller gave, nothing is written, and
 //! nothing was verified or proved yet: the caller gives that many and calls again.
+//!
+//! A protocol that is prepared is read once, and then serves many proofs. It is kept for as long as the program runs.
 #![tactic(auto)]
 
-ghost use Rattle.std.specs.Prelude.{length};
-ghost use Rattle.tealmuze_calls.specs.Written.{Answers};
+ghost use Rattle.std.specs.Prelude.{◌≡◌, ◌∷◌, [], ℕ, List, length, IfOk, IfErr, MatchOption};
+ghost use Rattle.std.specs.{Borrow.{sem}, Ptr.{as_ptr}};
+ghost use Rattle.tealmuze_c.specs.{Kept.is_shared_at, Told.IsPrepared};
+ghost use Rattle.tealmuze_calls.specs.{Errors.IsDueTo, Written.Answers};
+ghost use Rattle.tealmuze_calls.specs.contracts.prepared.Prepared.{the_row};
 
-use std::alloc::Global;
-use tealmuze_calls::{CallsBySuite, Suites, prove, tell, verify};
+use std::alloc::{AllocError, Global};
+use std::ptr::NonNull;
+use tealmuze_calls::{
+    CallsBySuite, Described, Prepared, Suites, Unanswered, prepare, prove, prove_prepared, tell,
+    verify, verify_prepared,
+};
 
 /// Verifies a proof of the protocol that the description has, with the witnesses that its `observe_pow` steps are
 /// carried.
@@ -52,5 +61,139 @@ pub extern "C" fn tealmuze_prove(
         (⟦<Suites as CallsBySuite>⟧.wants_room (length values.now) description.now) answer.old result answer.new }
 {
     let found = prove(alloc, description, values, answer.len());
+    tell(alloc, found, answer)
+}
+
+// How many bytes suffice for the answer of `tealmuze_prepare`: its first, and a reason.
+const PREPARED_ROOM: usize = 1001;
+
+/// Prepares the protocol that the description has, and keeps it for as long as the program runs.
+///
+/// The answer is the byte 0 alone, and `prepared` then leads to the protocol; or it begins with 2 or 3 as those of
+/// `tealmuze_verify` do, and `prepared` is as it was. At most 1001 bytes are wanted for it, and where there are fewer
+/// nothing is prepared.
+#[unsafe(no_mangle)]
+pub extern "C" fn tealmuze_prepare(
+    alloc: Global,
+    description: &'static [u8],
+    prepared: &mut *mut u8,
+    answer: &mut [u8],
+) -> usize
+    ensures told { Answers (λ told. told ≡ 0 ∷ []) (⟦<Suites as CallsBySuite>⟧.is_described description.now)
+        (λ wanted. wanted ≡ 1001) answer.old result answer.new }
+    ensures* kept { ∃ₛ (λ (it : Prepared). sem 𝓛 (is_shared_at the_row prepared.new it)
+        ∗ ⌜ ⟦<Prepared as Described>⟧.describes it description.now ⌝)
+        ∨ₛ ⌜ (IsPrepared result answer.new → ⊥) × (prepared.new ≡ prepared.old) ⌝ }
+{
+    hand_out(alloc, description, prepared, answer).0
+}
+
+// Prepares a protocol, and hands out where it is kept. The number is that of the bytes of the answer.
+fn hand_out(
+    alloc: Global,
+    description: &'static [u8],
+    prepared: &mut *mut u8,
+    answer: &mut [u8],
+) -> (usize, Option<&'static Prepared>)
+    ensures told { Answers (λ told. told ≡ 0 ∷ []) (⟦<Suites as CallsBySuite>⟧.is_described description.now)
+        (λ wanted. wanted ≡ 1001) answer.old result.0 answer.new }
+    ensures kept { MatchOption result.1 ((IsPrepared result.0 answer.new → ⊥) × (prepared.new ≡ prepared.old))
+        (λ it. ⟦<Prepared as Described>⟧.describes it.now description.now × (prepared.new ≡ as_ptr it)) }
+{
+    if answer.len() < PREPARED_ROOM {
+        return (PREPARED_ROOM, None);
+    }
+    match kept(alloc, description) {
+        Ok(it) => {
+            *prepared = NonNull::from_ref(it).cast::<u8>().as_ptr();
+            answer[0] = 0;
+            (1, Some(it))
+        }
+        Err(reason) => (tell(alloc, Err(reason), answer), None),
+    }
+}
+
+// Prepares a protocol, which is kept for as long as the program runs.
+fn kept(alloc: Global, description: &'static [u8]) -> Result<&'static Prepared, Unanswered>
+    ensures ok { IfOk result (λ it. ⟦<Prepared as Described>⟧.describes it.now description.now) }
+    ensures err { IfErr result
+        (IsDueTo (⟦<Suites as CallsBySuite>⟧.is_described description.now → ⊥)) }
+{
+    let it = prepare(alloc, description)?;
+    Ok(keep(alloc, it)?)
+}
+
+fn keep<'a, T: Drop + 'a>(alloc: Global, value: T) -> Result<&'a T, AllocError>
+    ensures { IfOk result (λ it. it.now ≡ value) }
+{
+    Ok(Box::leak(Box::new(alloc, value)?))
+}
+
+/// Answers what `tealmuze_verify` does of a description that was prepared.
+///
+/// `prepared` is a pointer that `tealmuze_prepare` wrote. Calls with the same one may run at once.
+#[unsafe(no_mangle)]
+pub unsafe extern "C" fn tealmuze_verify_prepared(
+    alloc: Global,
+    prepared: *mut u8,
+    proof: &[u8],
+    carried: &[u64],
+    answer: &mut [u8],
+) -> usize
+    ghost read: { Prepared × List ℕ }
+    requires described { ⟦<Prepared as Described>⟧.describes read.0 read.1 }
+    requires* shared { sem 𝓛 (is_shared_at the_row prepared read.0) }
+    ensures { Answers (⟦<Suites as CallsBySuite>⟧.tells_of_proof proof.now carried.now read.1)
+        (⟦<Suites as CallsBySuite>⟧.asks_of_proof read.1 carried.now)
+        (⟦<Suites as CallsBySuite>⟧.wants_room (length proof.now) read.1) answer.old result answer.new }
+{
+    verify_kept(&*(prepared as *mut Prepared), alloc, proof, carried, answer)
+}
+
+fn verify_kept(
+    prepared: &'static Prepared,
+    alloc: Global,
+    proof: &[u8],
+    carried: &[u64],
+    answer: &mut [u8],
+) -> usize
+    requires { (description : List ℕ) × ⟦<Prepared as Described>⟧.describes prepared.now description }
+    ensures { (description : List ℕ) → ⟦<Prepared as Described>⟧.describes prepared.now description →
+        Answers (⟦<Suites as CallsBySuite>⟧.tells_of_proof proof.now carried.now description)
+        (⟦<Suites as CallsBySuite>⟧.asks_of_proof description carried.now)
+        (⟦<Suites as CallsBySuite>⟧.wants_room (length proof.now) description) answer.old result answer.new }
+{
+    let found = verify_prepared(alloc, prepared, proof, carried, answer.len());
+    tell(alloc, found, answer)
+}
+
+/// Answers what `tealmuze_prove` does of a description that was prepared.
+///
+/// `prepared` is a pointer that `tealmuze_prepare` wrote. Calls with the same one may run at once.
+#[unsafe(no_mangle)]
+pub unsafe extern "C" fn tealmuze_prove_prepared(
+    alloc: Global,
+    prepared: *mut u8,
+    values: &[u8],
+    answer: &mut [u8],
+) -> usize
+    ghost read: { Prepared × List ℕ }
+    requires described { ⟦<Prepared as Described>⟧.describes read.0 read.1 }
+    requires* shared { sem 𝓛 (is_shared_at the_row prepared read.0) }
+    ensures { Answers (⟦<Suites as CallsBySuite>⟧.tells_of_values values.now read.1)
+        (⟦<Suites as CallsBySuite>⟧.asks_of_values read.1 values.now)
+        (⟦<Suites as CallsBySuite>⟧.wants_room (length values.now) read.1) answer.old result answer.new }
+{
+    prove_kept(&*(prepared as *mut Prepared), alloc, values, answer)
+}
+
+fn prove_kept(prepared: &'static Prepared, alloc: Global, values: &[u8], answer: &mut [u8]) -> usize
+    requires { (description : List ℕ) × ⟦<Prepared as Described>⟧.describes prepared.now description }
+    ensures { (description : List ℕ) → ⟦<Prepared as Described>⟧.describes prepared.now description →
+        Answers (⟦<Suites as CallsBySuite>⟧.tells_of_values values.now description)
+        (⟦<Suites as CallsBySuite>⟧.asks_of_values description values.now)
+        (⟦<Suites as CallsBySuite>⟧.wants_room (length values.now) description) answer.old result answer.new }
+{
+    let found = prove_prepared(alloc, prepared, values, answer.len());
     tell(alloc, found, answer)
 }

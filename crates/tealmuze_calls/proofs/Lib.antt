@@ -15,3 +15,4 @@ pub mod Readers
 pub mod Labels
 pub mod Handed
 pub mod Sendable
+pub mod BySuites

@@ -42,3 +42,8 @@ abbrev pub BySuite : {T : Type 0} → List (List ℕ → T → Type 0) → List 
 BySuite (first ∷ others) (zero ∷ protocol) told = first protocol told
 BySuite (first ∷ others) (suc number ∷ protocol) told = BySuite others (number ∷ protocol) told
 BySuite _ _ told = ⊥
+
+-- the first byte of a description is this suite's, and of what stands after it this is so
+abbrev pub IsOfSuite : ℕ → (List ℕ → Type 0) → List ℕ → Type 0
+IsOfSuite suite Is [] = ⊥
+IsOfSuite suite Is (number ∷ protocol) = (number ≡ suite) × Is protocol

@@ -12,6 +12,9 @@ use test_suites::{
 
 /// What is told of the protocol that a description has, of whatever suite.
 pub trait CallsBySuite {
+    // Some protocol is described.
+    ghost is_described: { List ℕ → Type 0 };
+
     // Of a proof, with these witnesses carried; by a verdict of these bytes.
     ghost tells_of_proof: { List ℕ → List ℕ → List ℕ → List ℕ → Type 0 };
 
@@ -31,6 +34,17 @@ pub trait CallsBySuite {
 pub struct Suites;
 
 impl CallsBySuite for Suites {
+    ghost is_described = { λ description. BySuite (
+        (λ protocol unit. ⟦<HashSuite<Sha256Hasher> as Calls>⟧.is_described 1 protocol) ∷
+        (λ protocol unit. ⟦<Serializing32Suite as Calls>⟧.is_described 1 protocol) ∷
+        (λ protocol unit. ⟦<HashSuite<Keccak256Hasher> as Calls>⟧.is_described 1 protocol) ∷
+        (λ protocol unit. ⟦<Serializing32Suite<Keccak256Hasher> as Calls>⟧.is_described 1 protocol) ∷
+        (λ protocol unit. ⟦<Serializing64Suite as Calls>⟧.is_described 1 protocol) ∷
+        (λ protocol unit. ⟦<Serializing64Suite<Keccak256Hasher> as Calls>⟧.is_described 1 protocol) ∷
+        (λ protocol unit. ⟦<BabyBearPoseidon2Suite as Calls>⟧.is_described 1 protocol) ∷
+        (λ protocol unit. ⟦<GoldilocksPoseidon2Suite as Calls>⟧.is_described 1 protocol) ∷
+        []) description (tt {0}) };
+
     ghost tells_of_proof = { λ proof carried. BySuite (
         (⟦<HashSuite<Sha256Hasher> as Calls>⟧.tells_of_proof 1 proof carried) ∷
         (⟦<Serializing32Suite as Calls>⟧.tells_of_proof 1 proof carried) ∷

@@ -19,6 +19,9 @@ pub trait Calls: Called {
         Self.Unit Self.Opaque Self.Challenger Self.Codec Self.Accept Self.Digest Self.Group Self.Unit.Item
         Self.Challenger.State Self.Challenger.Symbol) → Type 0 };
 
+    // Some protocol is described.
+    ghost is_described: { ℕ → List ℕ → Type 0 };
+
     // Of a proof, with these witnesses carried; by a verdict of these bytes.
     ghost tells_of_proof: { ℕ → List ℕ → List ℕ → List ℕ → List ℕ → Type 0 };
 
@@ -38,6 +41,11 @@ pub trait Calls: Called {
 impl<S: Called> Calls for S {
     ghost describes = { λ degree. Describes S.Field.residues.number S.Extension.coefficients S.opaque_numbers
         S.are_opaque (⟦<S as Meaning>⟧.rules degree) };
+
+    ghost is_described = { λ degree description.
+        let rules = ⟦<S as Meaning>⟧.rules degree in
+        DescribesSome S S.Unit S.Challenger S.Codec S.Digest S.Group rules S.Field.residues.number
+        S.Extension.coefficients S.opaque_numbers S.are_opaque description (λ steps. Unit {0}) };
 
     ghost tells_of_proof = { λ degree proof carried description told.
         let rules = ⟦<S as Meaning>⟧.rules degree in

@@ -10,6 +10,7 @@ mod cursor;
 mod description;
 mod duplex_suites;
 mod hash_suites;
+mod prepared;
 mod proving;
 mod readings;
 mod room;
@@ -25,7 +26,8 @@ mod words;
 
 pub use crate::by_suite::{CallsBySuite, Suites};
 pub use crate::calls::Calls;
-pub use crate::proving::prove;
+pub use crate::prepared::{Described, Prepared, prepare};
+pub use crate::proving::{prove, prove_prepared};
 pub use crate::readings::{
     described_protocols_are_alike, description_has_one_reading, verdicts_are_of_what_is_described,
 };
@@ -33,4 +35,4 @@ pub use crate::rooms::wanted_room_suffices;
 pub use crate::suites::Called;
 pub use crate::telling::{Answer, tell};
 pub use crate::unanswered::Unanswered;
-pub use crate::verifying::verify;
+pub use crate::verifying::{verify, verify_prepared};

@@ -9,8 +9,8 @@ ghost use Rattle.tealmuze_calls.specs.{Errors.IsDueTo, Told.TellsOfValues, Writt
 use crate::answers::{put_challenges, put_counted, put_scalars};
 use crate::by_suite::{CallsBySuite, Suites};
 use crate::calls::Calls;
-use crate::cursor::Cursor;
 use crate::description::Protocol;
+use crate::prepared::{Described, Prepared, prepare};
 use crate::room::wanted_room;
 use crate::suites::Called;
 use crate::telling::Answer;
@@ -19,13 +19,7 @@ use crate::values::parse_values;
 use crate::verdicts::{DONE, refused};
 use p3_challenger::Sponge;
 use p3_challenger::fs::script::{Meaning, Proved, Sent, prove as prove_script, sent_matches};
-use p3_keccak::Keccak256Hasher;
-use p3_symmetric::Sha256Hasher;
 use std::alloc::{AllocError, Global};
-use test_suites::{
-    BabyBearPoseidon2Suite, GoldilocksPoseidon2Suite, HashSuite, Serializing32Suite,
-    Serializing64Suite,
-};
 
 /// Proves values, and answers what is told of them. `room` bytes are given for it: where the answer may have more,
 /// nothing is proved.
@@ -41,35 +35,36 @@ pub fn prove(
     ensures err { IfErr result
         (IsDueTo (⟦<Suites as CallsBySuite>⟧.asks_of_values description.now values.now → ⊥)) }
 {
-    let mut from = Cursor::new(description);
-    match from.byte()? {
-        0 => prove_in::<HashSuite<Sha256Hasher>>(alloc, from, values, room),
-        1 => prove_in::<Serializing32Suite>(alloc, from, values, room),
-        2 => prove_in::<HashSuite<Keccak256Hasher>>(alloc, from, values, room),
-        3 => prove_in::<Serializing32Suite<Keccak256Hasher>>(alloc, from, values, room),
-        4 => prove_in::<Serializing64Suite>(alloc, from, values, room),
-        5 => prove_in::<Serializing64Suite<Keccak256Hasher>>(alloc, from, values, room),
-        6 => prove_in::<BabyBearPoseidon2Suite>(alloc, from, values, room),
-        7 => prove_in::<GoldilocksPoseidon2Suite>(alloc, from, values, room),
-        suite => Err(Unanswered::Suite(suite)),
-    }
+    let prepared = prepare(alloc, description)?;
+    prove_prepared(alloc, &prepared, values, room)
 }
 
-// Proves values of the protocol that these bytes describe.
-fn prove_in<S: Called>(
+/// Proves values of a protocol that is prepared, and answers what [`prove`] does of its description.
+pub fn prove_prepared(
     alloc: Global,
-    from: Cursor<'static>,
+    prepared: &Prepared,
     values: &[u8],
     room: usize,
 ) -> Result<Answer, Unanswered>
-    ensures ok { IfOk result (ByAnswer (⟦<S as Calls>⟧.tells_of_values S.Field.DIMENSION values.now
-        from.entry.left.now) (λ wanted. ⟦<S as Calls>⟧.wants_room S.Field.DIMENSION
-        S.Extension.DIMENSION (length values.now) from.entry.left.now wanted × room < wanted)) }
-    ensures err { IfErr result
-        (IsDueTo (⟦<S as Calls>⟧.asks_of_values S.Field.DIMENSION from.entry.left.now values.now → ⊥)) }
+    requires { (description : List ℕ) × ⟦<Prepared as Described>⟧.describes prepared.now description }
+    ensures ok { (description : List ℕ) → ⟦<Prepared as Described>⟧.describes prepared.now description →
+        IfOk result (ByAnswer (⟦<Suites as CallsBySuite>⟧.tells_of_values values.now description) (λ wanted.
+        ⟦<Suites as CallsBySuite>⟧.wants_room (length values.now) description wanted × room < wanted)) }
+    ensures err { (description : List ℕ) → ⟦<Prepared as Described>⟧.describes prepared.now description →
+        IfErr result (IsDueTo (⟦<Suites as CallsBySuite>⟧.asks_of_values description values.now → ⊥)) }
 {
-    let protocol = Protocol::<S>::parse(alloc, from)?;
-    prove_protocol(alloc, &protocol, values, room)
+    match prepared {
+        Prepared::BabyBearBytes(protocol) => prove_protocol(alloc, protocol, values, room),
+        Prepared::BabyBearElements(protocol) => prove_protocol(alloc, protocol, values, room),
+        Prepared::BabyBearBytesKeccak(protocol) => prove_protocol(alloc, protocol, values, room),
+        Prepared::BabyBearElementsKeccak(protocol) => prove_protocol(alloc, protocol, values, room),
+        Prepared::GoldilocksElements(protocol) => prove_protocol(alloc, protocol, values, room),
+        Prepared::GoldilocksElementsKeccak(protocol) => prove_protocol(
+            alloc, protocol, values, room,
+        ),
+        Prepared::BabyBearPoseidon2(protocol) => prove_protocol(alloc, protocol, values, room),
+        Prepared::GoldilocksPoseidon2(protocol) => prove_protocol(alloc, protocol, values, room),
+    }
 }
 
 // Proves values of the protocol. `room` bytes are given for the answer.

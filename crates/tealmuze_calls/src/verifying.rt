@@ -8,8 +8,8 @@ ghost use Rattle.tealmuze_calls.specs.{Errors.IsDueTo, Told.{TellsOfProof, CanBe
 use crate::answers::{put_challenges, put_received};
 use crate::by_suite::{CallsBySuite, Suites};
 use crate::calls::Calls;
-use crate::cursor::Cursor;
 use crate::description::Protocol;
+use crate::prepared::{Described, Prepared, prepare};
 use crate::room::wanted_room;
 use crate::suites::Called;
 use crate::telling::Answer;
@@ -18,13 +18,7 @@ use crate::verdicts::{DONE, refused};
 use crate::words::scalars;
 use p3_challenger::Sponge;
 use p3_challenger::fs::script::{Meaning, Step, Verified, carried_len, verify as verify_script};
-use p3_keccak::Keccak256Hasher;
-use p3_symmetric::Sha256Hasher;
 use std::alloc::{AllocError, Global};
-use test_suites::{
-    BabyBearPoseidon2Suite, GoldilocksPoseidon2Suite, HashSuite, Serializing32Suite,
-    Serializing64Suite,
-};
 
 /// Verifies a proof, and answers what is told of it. `room` bytes are given for it: where the answer may have more,
 /// nothing is verified.
@@ -41,36 +35,49 @@ pub fn verify(
     ensures err { IfErr result
         (IsDueTo (⟦<Suites as CallsBySuite>⟧.asks_of_proof description.now carried.now → ⊥)) }
 {
-    let mut from = Cursor::new(description);
-    match from.byte()? {
-        0 => verify_in::<HashSuite<Sha256Hasher>>(alloc, from, proof, carried, room),
-        1 => verify_in::<Serializing32Suite>(alloc, from, proof, carried, room),
-        2 => verify_in::<HashSuite<Keccak256Hasher>>(alloc, from, proof, carried, room),
-        3 => verify_in::<Serializing32Suite<Keccak256Hasher>>(alloc, from, proof, carried, room),
-        4 => verify_in::<Serializing64Suite>(alloc, from, proof, carried, room),
-        5 => verify_in::<Serializing64Suite<Keccak256Hasher>>(alloc, from, proof, carried, room),
-        6 => verify_in::<BabyBearPoseidon2Suite>(alloc, from, proof, carried, room),
-        7 => verify_in::<GoldilocksPoseidon2Suite>(alloc, from, proof, carried, room),
-        suite => Err(Unanswered::Suite(suite)),
-    }
+    let prepared = prepare(alloc, description)?;
+    verify_prepared(alloc, &prepared, proof, carried, room)
 }
 
-// Verifies a proof of the protocol that these bytes describe.
-fn verify_in<S: Called>(
+/// Verifies a proof of a protocol that is prepared, and answers what [`verify`] does of its description.
+pub fn verify_prepared(
     alloc: Global,
-    from: Cursor<'static>,
+    prepared: &Prepared,
     proof: &[u8],
     carried: &[u64],
     room: usize,
 ) -> Result<Answer, Unanswered>
-    ensures ok { IfOk result (ByAnswer (⟦<S as Calls>⟧.tells_of_proof S.Field.DIMENSION proof.now
-        carried.now from.entry.left.now) (λ wanted. ⟦<S as Calls>⟧.wants_room S.Field.DIMENSION
-        S.Extension.DIMENSION (length proof.now) from.entry.left.now wanted × room < wanted)) }
-    ensures err { IfErr result
-        (IsDueTo (⟦<S as Calls>⟧.asks_of_proof S.Field.DIMENSION from.entry.left.now carried.now → ⊥)) }
+    requires { (description : List ℕ) × ⟦<Prepared as Described>⟧.describes prepared.now description }
+    ensures ok { (description : List ℕ) → ⟦<Prepared as Described>⟧.describes prepared.now description →
+        IfOk result (ByAnswer (⟦<Suites as CallsBySuite>⟧.tells_of_proof proof.now carried.now description) (λ wanted.
+        ⟦<Suites as CallsBySuite>⟧.wants_room (length proof.now) description wanted × room < wanted)) }
+    ensures err { (description : List ℕ) → ⟦<Prepared as Described>⟧.describes prepared.now description →
+        IfErr result (IsDueTo (⟦<Suites as CallsBySuite>⟧.asks_of_proof description carried.now → ⊥)) }
 {
-    let protocol = Protocol::<S>::parse(alloc, from)?;
-    verify_protocol(alloc, &protocol, proof, carried, room)
+    match prepared {
+        Prepared::BabyBearBytes(protocol) => verify_protocol(alloc, protocol, proof, carried, room),
+        Prepared::BabyBearElements(protocol) => verify_protocol(
+            alloc, protocol, proof, carried, room,
+        ),
+        Prepared::BabyBearBytesKeccak(protocol) => verify_protocol(
+            alloc, protocol, proof, carried, room,
+        ),
+        Prepared::BabyBearElementsKeccak(protocol) => verify_protocol(
+            alloc, protocol, proof, carried, room,
+        ),
+        Prepared::GoldilocksElements(protocol) => verify_protocol(
+            alloc, protocol, proof, carried, room,
+        ),
+        Prepared::GoldilocksElementsKeccak(protocol) => verify_protocol(
+            alloc, protocol, proof, carried, room,
+        ),
+        Prepared::BabyBearPoseidon2(protocol) => verify_protocol(
+            alloc, protocol, proof, carried, room,
+        ),
+        Prepared::GoldilocksPoseidon2(protocol) => verify_protocol(
+            alloc, protocol, proof, carried, room,
+        ),
+    }
 }
 
 // Verifies a proof of the protocol. `room` bytes are given for the answer.

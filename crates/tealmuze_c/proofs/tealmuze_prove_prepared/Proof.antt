@@ -1,0 +1,121 @@
+-- `tealmuze_prove_prepared` meets its contract: what the handle leads to is shared for good, so `prove_kept` may read it.
+use Rattle.std.proofs.Common.{ℕ, List, [], ◌∷◌, ◌++◌, refl, sym, subst, w64, MutBor, Bor}
+use Rattle.std.proofs.raw_atomic.Walks.{proved_at}
+use Rattle.std.proofs.cell.Inside.{one}
+use base.Logic.{ent, id⊢, emp}
+use base.Fml.{ftrue, flft}
+use mir.Syntax.{named}
+use mir.Val.{Val, vptr}
+use prog.Wp.{WpFn}
+use contract.Monad.{fact, fact_i}
+use contract.Running.{tables}
+use types.Kit.{‵, raw, ◌⊛◌, some, later, prop, ◌$◌, ◌∵◌, !, qed, done, move, keep, drop, use0, use1, use2, split, join, fsplit, fjoin, feq_l, feq_i, pick, await, regoal, suffices}
+use types.Part.{whole, sub, agg}
+use types.Run.{enter, of_opd, addr, from, stop, fld, hop, no_more, and_then, returns}
+use types.ByLocal.{alloc_all, pass_all, free_all, look_at, look_in_at, get, get_in, through, sets, lands_as}
+use denote.Builtin.{u8, usize}
+use denote.Exit.{yes}
+use denote.Laws.{Is, shows}
+use denote.Param.{layout}
+use denote.Plain.{uint_Lawful}
+use denote.RawPtr.{Ptr, RawPtr, block_ptr, in_a_block, rawptr_vals}
+use denote.Signature.{plain, shr_slice_of}
+use denote.Slice.{ShrSlice, MutSlice, shr_slice_vals, mut_slice_vals}
+use denote.Steps.{nothing, heard, peeks}
+use denote.Triple.Call.{calls_at}
+use denote.Triple.Clauses.{Lasts, lasts}
+use denote.Triple.Entry.{Vals}
+use denote.Triple.Spec.{triple_of}
+use denote.Triple.Table.{framed}
+use denote.Triple.Walked.{Stays, says, walk_of, stay_dropped, gave_slice, Goes-dropped, Goes-gave_slice, ends_at}
+use Rattle.std.specs.contracts.alloc.Global.{the_row as Global}
+use Rattle.std.proofs.alloc.Global.TheLaws.{the_row_laws as handle_laws}
+use Rattle.tealmuze_calls.specs.contracts.prepared.Prepared.{the_row as R}
+use Rattle.tealmuze_c.specs.Kept.{is_shared_at}
+use Rattle.tealmuze_c.specs.contracts.tealmuze_prove_prepared as f
+use Rattle.tealmuze_c.proofs.tealmuze_prove_prepared.Statement.{statement}
+use Rattle.tealmuze_c.proofs.tealmuze_prove_prepared.Code as code
+use Rattle.tealmuze_c.specs.contracts.prove_kept as g
+use Rattle.tealmuze_c.proofs.prove_kept.Met.{met}
+
+abbrev stayed : Stays f.ended.signature.params f.ended.kept
+stayed = (
+  stay_dropped (plain (λ _. Global)) yes,
+  (
+    stay_dropped (plain (λ _. RawPtr)) yes,
+    (
+      stay_dropped (shr_slice_of (0 ∷ []) tt (plain (λ _. u8))) yes,
+      (
+        gave_slice (1 ∷ []) tt (plain (λ _. u8)),
+        tt,
+      ),
+    ),
+  ),
+)
+
+pub tealmuze_prove_prepared_spec : {M : Type 1} → statement M
+tealmuze_prove_prepared_spec 𝓤 𝓛 𝓜 𝓡 wired =
+    let c = f.clauses 𝓛 𝓜.mem 𝓡.returns in let W = walk_of 𝓛 f.ended stayed c in let 𝓣 = tables 𝓤 𝓛.H 𝓜 𝓡 𝓡.env in
+    proved_at 𝓛 f.ended stayed c 𝓜 𝓡 (
+      Goes-dropped 𝓛 2 (plain (λ _. Global)) yes (λ κs x w. refl),
+      (
+        Goes-dropped 𝓛 2 (plain (λ _. RawPtr)) yes (λ κs x w. refl),
+        (
+          Goes-dropped 𝓛 2 (shr_slice_of (0 ∷ []) tt (plain (λ _. u8))) yes (λ κs x w. refl),
+          (
+            Goes-gave_slice 𝓛 2 1 tt (plain (λ _. u8)),
+            tt,
+          ),
+        ),
+      ),
+    )
+    f.Key.name code.function (code.unfolded 𝓤 𝓛.H 𝓜 𝓡 wired)
+    (λ x are.
+    let κs = x.0.0 in let qs = x.0.1 in let bounds = x.0.2 in let a = x.0.3 in let v = x.1 in
+    let one-handle = one (layout Global) x.0.4.0 ((handle_laws.lawful 𝓛).typed a.0 x.0.4.0 are.0) in let h : Val = one-handle.0 in
+    let values : Bor (List ℕ) = a.1.1.0 in let answer : MutBor (List ℕ) = a.1.1.1.0 in
+    let us : List Val = shr_slice_vals values in let ws : List Val = mut_slice_vals answer in
+    let at : Vals f.ended.signature κs → W.Ghost = λ vss. ((κs, qs, bounds, a, vss), v) in
+    let y : Ptr → W.Ghost = λ p. ((κs, qs, bounds, (a.0, (p, (values, (answer, tt)))), (h ∷ [], (rawptr_vals p, (us, (ws, tt))))), v) in
+    let room-values = are.1.1.0.0.1 in let room-answer = are.1.1.1.0.0.1 in
+    subst (λ (vss : Vals f.ended.signature κs). ent 𝓤 (W.pre (at vss)) (WpFn 𝓤 𝓛.H 𝓣.C 𝓣.Λ code.function (W.args (at vss)) (W.post (at vss))))
+    (λ i. (sym one-handle.1 i, (sym are.1.0 i, (sym are.1.1.0.0.0 i, (sym are.1.1.1.0.0.0 i, tt))))) (
+    qed 𝓛 (((‵ (flft κs.0 qs.0) ⊛ ‵ (flft κs.1.0 qs.1.0) ⊛ ‵ ftrue) ⊛ ‵ (Global.own_val a.0 (h ∷ [])) ⊛ ‵ (RawPtr.own_val a.1.0 (rawptr_vals a.1.0)) ⊛ ‵ ((ShrSlice (named 0) κs.0 u8).own_val values us) ⊛ ‵ ((MutSlice (named 1) κs.1.0 u8).own_val answer ws) ⊛ ‵ ftrue)
+    ∷ raw (fact 𝓤 _) ∷ ‵ (is_shared_at R a.1.0 v.0) ∷ []) ∵
+    move ! (1 ∷ []) $ heard ! _ (λ read.
+    -- [what is had of the parameters; what is shared]
+    split ! $ move ! (1 ∷ []) $ split ! $ move ! (1 ∷ []) $ split ! $ drop ! $ split ! $ move ! (1 ∷ []) $ split ! $ keep ! (0 ∷ 2 ∷ 3 ∷ 4 ∷ 5 ∷ []) $
+    -- [the answer; the values; the handle; the tokens; what is shared]
+    move ! (3 ∷ []) $ split ! $ move ! (1 ∷ []) $ split ! $ keep ! (6 ∷ 2 ∷ 0 ∷ 5 ∷ 4 ∷ 3 ∷ []) $
+    -- [what is shared; the tokens of the values and of the answer; the handle; the values; the answer]
+    in_a_block ! a.1.0 (λ p. is_shared_at R p v.0) (id⊢ 𝓤 _) (λ b o e.
+    regoal ! (λ p. prop (WpFn 𝓤 𝓛.H 𝓣.C 𝓣.Λ code.function (h ∷ (rawptr_vals p ++ (us ++ (ws ++ [])))) (W.post (y p)))) e refl $
+    enter ! _ _ _ _ _ $
+    alloc_all ! (λ l. pass_all ! refl (one-handle.2, ((tt, tt), ((tt, (tt, (record { fits = room-values.0 }, tt))), ((tt, (tt, (record { fits = room-answer.0 }, tt))), tt)))) $
+    -- prepared as *mut Prepared, &*that, and the answer lent on
+    sets ! (of_opd ! (get ! refl)) refl (tt, tt) $
+    sets ! (addr ! (through ! refl (stop !))) refl (tt, tt) $
+    sets ! (addr ! (from ! (fld ! refl (hop ! (look_in_at ! 4 (sub ! 0 refl (whole !))) (stop !))))) refl (tt, tt) $
+    sets ! (agg ! (and_then ! (get ! refl) (and_then ! (get_in ! (fld ! refl (stop !)) (sub ! 1 refl (whole !))) (no_more !)))) refl (tt, (tt, (record { fits = room-answer.0 }, tt))) $
+    -- what is shared, as a `&`
+    feq_i ! (List Val) (vptr b o ∷ []) (vptr b o ∷ []) refl $ fjoin ! $
+    let G = triple_of 𝓛 g.signature (g.spec 𝓛 𝓜.mem 𝓡.returns) in
+    let z : G.Ghost = (((κs.0, (κs.1.0, tt)), (qs.0, (qs.1.0, tt)), tt, (record { ref_ptr = (b, o); now = v.0 }, (a.0, (values, (answer, tt)))), (vptr b o ∷ [], (h ∷ [], (us, (ws, tt))))), tt) in
+    nothing ! $ move ! (6 ∷ 0 ∷ []) $ join ! $ move ! (5 ∷ 0 ∷ []) $ join ! $ move ! (4 ∷ 0 ∷ []) $ join ! $ move ! (1 ∷ 0 ∷ []) $ join ! $
+    nothing ! $ move ! (3 ∷ 0 ∷ []) $ join ! $ move ! (2 ∷ 0 ∷ []) $ join ! $ join ! $
+    use0 𝓛 (raw (fact 𝓤 _)) (fact_i 𝓤 _ (emp 𝓤) (v.1, read)) $ move ! (1 ∷ 0 ∷ []) $ use2 𝓛 (raw (G.pre z)) (id⊢ 𝓤 _) $
+    calls_at ! (framed 𝓤 𝓛.H 𝓜 𝓣) G (met 𝓤 𝓛 𝓜 𝓡 (code.calls-tealmuze_c::prove_kept 𝓡.env wired)) z
+    (and_then ! (get ! refl) (and_then ! (get ! refl) (and_then ! (get ! refl) (and_then ! (get ! refl) (no_more !))))) (λ r.
+    use1 𝓛 (later (some (λ (n : ℕ). ((‵ (flft κs.0 qs.0) ⊛ ‵ (flft κs.1.0 qs.1.0) ⊛ ‵ ftrue) ⊛ ‵ (usize.own_val n (r ∷ []))) ⊛
+    some (λ (xs : Lasts g.ended z.0.0 z.0.3). ‵ (lasts g.ended z.0.0 z.0.3 xs) ⊛ raw (fact 𝓤 _))))) (id⊢ 𝓤 _) $
+    await ! tt $ pick ! (λ n. split ! $ split ! $
+    -- [the tokens; the result; what the call left]
+    move ! (1 ∷ []) $ peeks ! usize (Is usize) (shows 𝓛 usize) n (r ∷ []) (λ is. lands_as ! refl refl ((uint_Lawful 𝓛 w64).typed n _ is).0 $
+    move ! (2 ∷ []) $ pick ! (λ xs. split ! $ move ! (1 ∷ []) $ heard ! _ (λ told.
+    -- [what the call left; the result; the tokens]
+    fsplit ! $ drop ! $ fsplit ! $ drop ! $ fsplit ! $ drop ! $ fsplit ! $ fsplit ! $ fsplit ! $ move ! (1 ∷ []) $ feq_l ! (λ same.
+    -- [the answer's last value; its borrow; nothing; the result; the tokens]
+    returns ! (look_at ! 0 refl) $ free_all ! refl $ keep ! (0 ∷ 1 ∷ 3 ∷ 4 ∷ []) $
+    suffices ! _ (ends_at 𝓛 f.ended stayed c (y (block_ptr b o)) r n (tt, (tt, (tt, (xs.1.1.1.0, tt)))) (tt, (tt, (tt, (same, tt))))) $
+    fjoin ! $ nothing ! $ move ! (1 ∷ 0 ∷ []) $ fjoin ! $ nothing ! $ fjoin ! $ nothing ! $ fjoin ! $ nothing ! $ fjoin ! $
+    move ! (2 ∷ 0 ∷ 1 ∷ []) $ says ! (told v.1 read) $ done !)))))))))))
