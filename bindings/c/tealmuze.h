@@ -45,7 +45,7 @@ size_t tealmuze_prove(const uint8_t *description, size_t description_len,
                       const uint8_t *values, size_t values_len,
                       uint8_t *answer, size_t answer_len);
 
-/* A protocol that is prepared for many proofs. Several threads may call with one at once. */
+/* A protocol that is prepared for many proofs. One thread at a time may call with it. */
 typedef struct tealmuze_prepared tealmuze_prepared;
 
 /* Prepares a protocol for many proofs: its description is read and its pattern made, once. The answer is 0 alone, and

@@ -11,27 +11,24 @@ const MOST_TOLD: usize = 1001;
 /// A protocol that is prepared for many proofs: its description was read, and its pattern made.
 ///
 /// Its calls answer what [`verify`](crate::verify) and [`prove`](crate::prove) answer of the protocol, and read no
-/// description. Several threads may make them at once. What is prepared is kept for as long as the program runs: prepare
-/// each protocol once, and not once for each proof. A copy is the same one.
+/// description. It may move to another thread, but only one at a time may call with it: a program of several threads prepares
+/// the protocol once for each. What is prepared is kept for as long as the program runs, so it is not prepared once for each
+/// proof.
 ///
 /// ```
-/// use std::sync::LazyLock;
-/// use tealmuze::{Prepared, Protocol, Step, Suite, Value};
+/// use tealmuze::{Protocol, Step, Suite, Value};
 ///
-/// static EXAMPLE: LazyLock<Prepared> = LazyLock::new(|| {
-///     let protocol = Protocol::builder(Suite::BabyBearBytes, 1, "example")
-///         .step("values", Step::Scalars(2))
-///         .step("alpha", Step::ChallengeScalar)
-///         .build();
-///     protocol.prepare().expect("steps that the suite plays")
-/// });
-///
-/// let proved = EXAMPLE.prove(&[Value::Scalars(vec![1, 2])])?;
-/// let verified = EXAMPLE.verify(&proved.proof, &proved.carried)?;
+/// let protocol = Protocol::builder(Suite::BabyBearBytes, 1, "example")
+///     .step("values", Step::Scalars(2))
+///     .step("alpha", Step::ChallengeScalar)
+///     .build();
+/// let prepared = protocol.prepare()?;
+/// let proved = prepared.prove(&[Value::Scalars(vec![1, 2])])?;
+/// let verified = prepared.verify(&proved.proof, &proved.carried)?;
 /// assert_eq!(verified.challenges, proved.challenges);
 /// # Ok::<(), tealmuze::Error>(())
 /// ```
-#[derive(Clone, Copy, Debug)]
+#[derive(Debug)]
 pub struct Prepared {
     protocol: Protocol,
     // What `tealmuze_prepare` wrote.
@@ -41,11 +38,9 @@ pub struct Prepared {
     room: usize,
 }
 
-// SAFETY: what the pointer leads to is neither changed nor freed, and several threads may call with it at once.
+// SAFETY: what the pointer leads to is not freed, belongs to no thread, and is reached by this value alone. (It counts its
+// owners with no atomic operation, so that two threads may not call with it at once: it is not `Sync`.)
 unsafe impl Send for Prepared {}
-
-// SAFETY: as of `Send`.
-unsafe impl Sync for Prepared {}
 
 impl Protocol {
     /// Prepares the protocol for many proofs. What is made is kept for as long as the program runs: call this once for a

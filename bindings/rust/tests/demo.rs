@@ -202,28 +202,34 @@ fn many_values_want_more_room_than_is_given_first() {
 
 #[test]
 fn threads() {
-    let demo = Both::of(demo().build());
+    let demo = demo().build();
     thread::scope(|scope| {
         for _ in 0..4 {
-            scope.spawn(|| (0..500).for_each(|_| assert!(demo.verify(&PROOF, &[]).is_ok())));
+            scope.spawn(|| {
+                (0..500).for_each(|_| assert!(tealmuze::verify(&demo, &PROOF, &[]).is_ok()))
+            });
         }
     });
 }
 
-// Each thread proves, accepts and refuses, so that calls of all kinds run at once.
+// Each thread proves, accepts and refuses, so that calls of all kinds run at once, each with what was prepared for its thread
+// by another one.
 #[test]
-fn one_prepared_protocol_in_several_threads() {
-    let prepared = demo().build().prepare().unwrap();
+fn prepared_protocols_in_several_threads() {
+    let protocol = demo().build();
+    let prepared = protocol.prepare().unwrap();
     let proved = prepared.prove(&values()).unwrap();
     let verified = prepared.verify(&PROOF, &[]).unwrap();
     let cut = prepared.verify(&PROOF[..20], &[]).unwrap_err();
     thread::scope(|scope| {
         for _ in 0..4 {
-            scope.spawn(|| {
+            let prepared = protocol.prepare().unwrap();
+            let (proved, verified, cut) = (&proved, &verified, &cut);
+            scope.spawn(move || {
                 for _ in 0..200 {
-                    assert_eq!(prepared.prove(&values()).unwrap(), proved);
-                    assert_eq!(prepared.verify(&PROOF, &[]).unwrap(), verified);
-                    assert_eq!(prepared.verify(&PROOF[..20], &[]).unwrap_err(), cut);
+                    assert_eq!(&prepared.prove(&values()).unwrap(), proved);
+                    assert_eq!(&prepared.verify(&PROOF, &[]).unwrap(), verified);
+                    assert_eq!(&prepared.verify(&PROOF[..20], &[]).unwrap_err(), cut);
                 }
             });
         }

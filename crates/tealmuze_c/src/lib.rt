@@ -131,7 +131,7 @@ fn keep<'a, T: Drop + 'a>(alloc: Global, value: T) -> Result<&'a T, AllocError>
 
 /// Answers what `tealmuze_verify` does of a description that was prepared.
 ///
-/// `prepared` is a pointer that `tealmuze_prepare` wrote. Calls with the same one may run at once.
+/// `prepared` is a pointer that `tealmuze_prepare` wrote. One thread at a time may call with it.
 #[unsafe(no_mangle)]
 pub unsafe extern "C" fn tealmuze_verify_prepared(
     alloc: Global,
@@ -169,7 +169,7 @@ fn verify_kept(
 
 /// Answers what `tealmuze_prove` does of a description that was prepared.
 ///
-/// `prepared` is a pointer that `tealmuze_prepare` wrote. Calls with the same one may run at once.
+/// `prepared` is a pointer that `tealmuze_prepare` wrote. One thread at a time may call with it.
 #[unsafe(no_mangle)]
 pub unsafe extern "C" fn tealmuze_prove_prepared(
     alloc: Global,

@@ -16,14 +16,14 @@ impl Both {
     // Where the protocol is refused when it is prepared, that stands for each answer.
     pub fn verify(&self, proof: &[u8], carried: &[u64]) -> Result<Verified, Error> {
         let told = tealmuze::verify(&self.protocol, proof, carried);
-        let prepared = self.prepared.clone();
+        let prepared = self.prepared.as_ref().map_err(Error::clone);
         assert_eq!(prepared.and_then(|it| it.verify(proof, carried)), told);
         told
     }
 
     pub fn prove(&self, values: &[Value]) -> Result<Proved, Error> {
         let told = tealmuze::prove(&self.protocol, values);
-        let prepared = self.prepared.clone();
+        let prepared = self.prepared.as_ref().map_err(Error::clone);
         assert_eq!(prepared.and_then(|it| it.prove(values)), told);
         told
     }
