@@ -28,6 +28,16 @@ const MOST_TOLD: usize = 1001;
 /// assert_eq!(verified.challenges, proved.challenges);
 /// # Ok::<(), tealmuze::Error>(())
 /// ```
+///
+/// Two threads share none:
+///
+/// ```compile_fail,E0277
+/// fn share<T: Sync>(_: T) {}
+///
+/// let protocol = tealmuze::Protocol::builder(tealmuze::Suite::BabyBearBytes, 1, "example").build();
+/// share(protocol.prepare()?);
+/// # Ok::<(), tealmuze::Error>(())
+/// ```
 #[derive(Debug)]
 pub struct Prepared {
     protocol: Protocol,
