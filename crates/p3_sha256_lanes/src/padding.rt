@@ -62,7 +62,8 @@ fn padding_word(message_length: usize, place: usize) -> u32
     mixed_padding_word(message_length, place)
 }
 
-// The same where the word may have bytes of several parts of the padding.
+// The same where the word may have bytes of several parts of the padding. It is a call of its own, as is
+// `padded_word`, so that the common words take few instructions.
 #[inline(never)]
 fn mixed_padding_word(message_length: usize, place: usize) -> u32
     requires { place + 4 ≤ padding_length message_length }

@@ -64,7 +64,9 @@ impl Described for Prepared {
     ] };
 }
 
-/// Reads a description.
+/// Reads a description: the protocol is of the suite that its first byte names. Labels are lent of the bytes.
+///
+/// The error is [`Unanswered::OutOfMemory`], or says why the bytes describe no protocol of a suite.
 pub fn prepare(alloc: Global, description: &'static [u8]) -> Result<Prepared, Unanswered>
     ensures ok { IfOk result (λ protocol. ⟦<Prepared as Described>⟧.describes protocol description.now) }
     ensures err { IfErr result (IsDueTo (⟦<Suites as CallsBySuite>⟧.is_described description.now → ⊥)) }
