@@ -82,7 +82,7 @@ pub extern "C" fn tealmuze_prepare(
     ensures told { Answers (λ told. told ≡ 0 ∷ []) (⟦<Suites as CallsBySuite>⟧.is_described description.now)
         (λ wanted. wanted ≡ 1001) answer.old result answer.new }
     ensures* kept { ∃ₛ (λ (it : Prepared). sem 𝓛 (is_shared_at the_row prepared.new it)
-        ∗ ⌜ ⟦<Prepared as Described>⟧.describes it description.now ⌝)
+        ∗ ⌜ IsPrepared result answer.new × ⟦<Prepared as Described>⟧.describes it description.now ⌝)
         ∨ₛ ⌜ (IsPrepared result answer.new → ⊥) × (prepared.new ≡ prepared.old) ⌝ }
 {
     hand_out(alloc, description, prepared, answer).0
@@ -98,7 +98,8 @@ fn hand_out(
     ensures told { Answers (λ told. told ≡ 0 ∷ []) (⟦<Suites as CallsBySuite>⟧.is_described description.now)
         (λ wanted. wanted ≡ 1001) answer.old result.0 answer.new }
     ensures kept { MatchOption result.1 ((IsPrepared result.0 answer.new → ⊥) × (prepared.new ≡ prepared.old))
-        (λ it. ⟦<Prepared as Described>⟧.describes it.now description.now × (prepared.new ≡ as_ptr it)) }
+        (λ it. (IsPrepared result.0 answer.new × ⟦<Prepared as Described>⟧.describes it.now description.now)
+        × (prepared.new ≡ as_ptr it)) }
 {
     if answer.len() < PREPARED_ROOM {
         return (PREPARED_ROOM, None);
