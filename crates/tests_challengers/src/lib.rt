@@ -4,6 +4,8 @@
 #[cfg(test)]
 mod counting;
 #[cfg(test)]
+mod kinds;
+#[cfg(test)]
 mod plain;
 #[cfg(test)]
 mod printed;

@@ -2,18 +2,18 @@
 use crate::support::{draws, grind, observe_one};
 use p3_challenger_core::{CanSample, ChallengerError};
 use p3_duplex::DuplexChallenger;
-use p3_field::F257;
+use p3_field::{F257, PrimeCharacteristicRing, UniformSamplingField};
 use p3_grinding::{CanCopy, UniformGrindingChallenger};
+use p3_lanes::{LanePermutation, PackedField};
 use p3_symmetric::Turn;
-use p3_test_support::element;
 use std::process::Abort;
 
 // A search and a check, each of 8 uniform bits.
 
-fn grind_uniform<C: UniformGrindingChallenger<Witness = F257>>(
+fn grind_uniform<C: UniformGrindingChallenger>(
     challenger: &mut C,
     resample: bool,
-) -> Result<F257, ChallengerError> {
+) -> Result<C::Witness, ChallengerError> {
     let bits = C::max_bits().min(8);
     if resample {
         challenger.grind_uniform(bits)
@@ -22,31 +22,31 @@ fn grind_uniform<C: UniformGrindingChallenger<Witness = F257>>(
     }
 }
 
-fn passes_uniform<C: UniformGrindingChallenger<Witness = F257>>(
+fn passes_uniform<C: UniformGrindingChallenger>(
     challenger: &mut C,
     witness: u64,
     resample: bool,
 ) -> Result<bool, ChallengerError> {
-    let bits = C::max_bits().min(8);
+    let (bits, witness) = (C::max_bits().min(8), C::Witness::from_u64(witness));
     if resample {
-        challenger.check_witness_uniform(bits, element(witness))
+        challenger.check_witness_uniform(bits, witness)
     } else {
-        challenger.check_witness_uniform_may_error(bits, element(witness))
+        challenger.check_witness_uniform_may_error(bits, witness)
     }
 }
 
 // Whether a search finds the witness after which 0 is drawn. After the one before it, the largest element is.
-fn finds_uniform_witness<C: CanCopy + UniformGrindingChallenger<Witness = F257> + CanSample<F257>>(
+fn finds_uniform_witness<C: CanCopy + UniformGrindingChallenger + CanSample<C::Witness>>(
     challenger: &C,
     resample: bool,
 ) -> Result<bool, ChallengerError> {
     let mut copy = challenger.copy()?;
     let found = grind_uniform(&mut copy, resample)?;
-    Ok(found == element(255) && draws(&mut copy, &[2, 4])?)
+    Ok(found == C::Witness::from_u64(255) && draws::<C::Witness, C>(&mut copy, &[2, 4])?)
 }
 
 // Whether a check meets the limit where another value may be drawn, and fails where none may.
-fn meets_the_limit<C: CanCopy + UniformGrindingChallenger<Witness = F257>>(
+fn meets_the_limit<C: CanCopy + UniformGrindingChallenger>(
     challenger: &C,
 ) -> Result<bool, ChallengerError> {
     let mut copy = challenger.copy()?;
@@ -56,16 +56,16 @@ fn meets_the_limit<C: CanCopy + UniformGrindingChallenger<Witness = F257>>(
 }
 
 // Whether no witness is found once 5 is observed, and what is drawn next is what would have been before.
-fn finds_none<C: CanCopy + UniformGrindingChallenger<Witness = F257> + CanSample<F257>>(
+fn finds_none<C: CanCopy + UniformGrindingChallenger + CanSample<C::Witness>>(
     challenger: &C,
 ) -> Result<bool, ChallengerError> {
     let mut copy = challenger.copy()?;
-    observe_one(&mut copy, element(5))?;
+    observe_one(&mut copy, C::Witness::from_u64(5))?;
     let none = grind(&mut copy, 3) == Err(ChallengerError::NoWitness);
-    Ok(none && draws(&mut copy, &[7, 2, 4])?)
+    Ok(none && draws::<C::Witness, C>(&mut copy, &[7, 2, 4])?)
 }
 
-fn works<C: CanCopy + UniformGrindingChallenger<Witness = F257> + CanSample<F257>>(
+fn works<C: CanCopy + UniformGrindingChallenger + CanSample<C::Witness>>(
     challenger: &C,
 ) -> Result<bool, ChallengerError> {
     let again = finds_uniform_witness(challenger, true)?;
@@ -74,8 +74,18 @@ fn works<C: CanCopy + UniformGrindingChallenger<Witness = F257> + CanSample<F257
     Ok(again && or_fails && limited && finds_none(challenger)?)
 }
 
+// The same of a duplex challenger. (generic, as the functions of the kinds)
+fn duplex_works<
+    F: UniformSamplingField + PackedField,
+    P: LanePermutation<F, W>,
+    const W: usize,
+    const R: usize,
+>(challenger: &DuplexChallenger<F, P, W, R>) -> Result<bool, ChallengerError> {
+    works(challenger)
+}
+
 #[test]
 fn work_is_found_or_refused(rt: HostRuntime) {
     let challenger: DuplexChallenger<F257, Turn<2>, 3, 2> = DuplexChallenger::new(Turn, 1);
-    assert!(rt; works(&challenger) == Ok(true));
+    assert!(rt; duplex_works(&challenger) == Ok(true));
 }
