@@ -34,7 +34,6 @@ fn body(alloc: Global, suite: SuiteCode, file: Entry<'_>) -> Result<String> {
 
 const HEAD: &str = "
 /// The types that play the protocol.
-#[derive(Clone, Copy, Debug)]
 pub struct Protocol;
 
 impl Suite for Protocol {
@@ -98,8 +97,11 @@ pub type Separator = DomainSeparator<{alphabet}, {digest}>;
 
 const SEPARATOR: &str =
     "/// The version and the name of the protocol, the pattern of its steps, and the instance.
-pub fn separator(alloc: Global, steps: &[Step<Protocol>]) -> Result<Separator, TranscriptError> {
-    let pattern = script::pattern::<Protocol>(alloc, steps)?;
+pub fn separator<S: Suite>(
+    alloc: Global,
+    steps: &[Step<S>],
+) -> Result<DomainSeparator<S::Unit, S::Digest>, TranscriptError> {
+    let pattern = script::pattern::<S>(alloc, steps)?;
 ";
 
 fn write_separator(alloc: Global, text: &mut String, file: Entry<'_>) -> Result<()> {
@@ -114,7 +116,7 @@ fn write_separator(alloc: Global, text: &mut String, file: Entry<'_>) -> Result<
 
 fn new_separator(alloc: Global, file: Entry<'_>) -> Result<String> {
     let (version, name) = (file.number("version")?, file.text("name")?);
-    Ok(format!(in alloc; "Separator::new(alloc, {version}, {name:?}.as_bytes(), pattern)")?)
+    Ok(format!(in alloc; "DomainSeparator::new(alloc, {version}, {name:?}.as_bytes(), pattern)")?)
 }
 
 fn write_instance(alloc: Global, text: &mut String, chunks: &[Value]) -> Result<()> {
