@@ -70,9 +70,8 @@ pub fn optional<T: ToJson>(alloc: Global, value: &Option<T>) -> Result<String> {
 pub fn list<T: ToJson>(alloc: Global, values: &[T]) -> Result<String> {
     let mut text = String::new(alloc);
     for value in values {
-        let before = if text.is_empty() { "" } else { ", " };
-        let value = value.json(alloc)?;
-        write!(text, "{before}{value}")?;
+        text.push_str(if text.is_empty() { "" } else { ", " })?;
+        text.push_str(&value.json(alloc)?)?;
     }
     Ok(format!(in alloc; "[{text}]")?)
 }
