@@ -1,6 +1,7 @@
 // The challengers whose calls are timed, each over a permutation that turns cells and over one that mixes them.
 ghost use Rattle.std.specs.Prelude.{◌<◌};
 
+use crate::by_call::ByCall;
 use crate::calls::{Calls, Player};
 use crate::timing::{Row, measure};
 use crate::work::{Uniform, Work};
@@ -172,7 +173,10 @@ fn measure_duplex(rt: &HostRuntime, runs: u32, values: &[BabyBear]) -> Result<u6
         work: &WORKED,
         uniform: &WORKED_UNIFORM,
     };
-    let second = measure_sponge(rt, runs, Turn::<9>, values, worked)?;
+    let called = ByCall {
+        permutation: Turn::<9>,
+    };
+    let second = measure_sponge(rt, runs, called, values, worked)?;
     let mixed = Rows {
         calls: &MIXED,
         work: &MIXED_WORK,
@@ -195,7 +199,10 @@ fn measure_sponge<P: LanePermutation<BabyBear, 16>>(
 
 fn measure_multi_field(rt: &HostRuntime, runs: u32, values: &[BabyBear]) -> Result<u64> {
     let calls = measure_fields::<_, 16, 8>(rt, runs, Turn::<1>, values, &MULTI_FIELD, &[])?;
-    let work = measure_fields::<_, 16, 8>(rt, runs, Turn::<9>, values, &[], &MULTI_FIELD_WORK)?;
+    let called = ByCall {
+        permutation: Turn::<9>,
+    };
+    let work = measure_fields::<_, 16, 8>(rt, runs, called, values, &[], &MULTI_FIELD_WORK)?;
     let poseidon2 = default_goldilocks_poseidon2_8();
     let mixed = measure_fields::<_, 8, 4>(rt, runs, poseidon2, values, &[], &MULTI_FIELD_MIXED)?;
     Ok(calls.wrapping_add(work).wrapping_add(mixed))

@@ -2,6 +2,7 @@
 //! least of several runs, and otherwise nothing. A second word, a number, says how many runs.
 #![tactic(auto)]
 
+mod by_call;
 mod calls;
 mod challengers;
 mod drivers;
