@@ -145,20 +145,6 @@ const ARRAYS: [(&str, (ArraysKind, Parts)); 10] = [
     ("oc64r", (ArraysKind::CapByReference, Parts::Words)),
 ];
 
-// The draws without a number, and those of so many values.
-const DRAWS: [(&str, Draw); 4] = [
-    ("s", Draw::Value),
-    ("sx", Draw::Extension),
-    ("sxa", Draw::AlgebraElement),
-    ("most-bits", Draw::MostBits),
-];
-
-const VALUES: [(&str, ValuesKind); 3] = [
-    ("si", ValuesKind::Slice),
-    ("sv", ValuesKind::Vector),
-    ("sa", ValuesKind::Array),
-];
-
 impl<T: Symbol> ChallengerCall<T> {
     /// Reads a call.
     pub fn parse(alloc: Global, text: &str) -> Result<ChallengerCall<T>> {
@@ -219,14 +205,17 @@ fn parse_lists<T: Symbol>(alloc: Global, words: &str) -> Result<Vec<Vec<T>>> {
 
 impl Draw {
     fn parse(name: &str, words: &str) -> Result<Draw> {
-        if words.is_empty() {
-            return look_up(&DRAWS, name);
-        }
-        let number = words.parse()?;
         match name {
-            "b" => Ok(Draw::Bits(number)),
-            "draw-element" => Ok(Draw::Element(number)),
-            _ => Ok(Draw::Values(look_up(&VALUES, name)?, number)),
+            "s" => Ok(Draw::Value),
+            "sx" => Ok(Draw::Extension),
+            "sxa" => Ok(Draw::AlgebraElement),
+            "si" => Ok(Draw::Values(ValuesKind::Slice, words.parse()?)),
+            "sv" => Ok(Draw::Values(ValuesKind::Vector, words.parse()?)),
+            "sa" => Ok(Draw::Values(ValuesKind::Array, words.parse()?)),
+            "b" => Ok(Draw::Bits(words.parse()?)),
+            "most-bits" => Ok(Draw::MostBits),
+            "draw-element" => Ok(Draw::Element(words.parse()?)),
+            _ => bail!("an unknown call"),
         }
     }
 }

@@ -34,20 +34,24 @@ pub fn difference(
     }
 }
 
-macro_rules! on_new_duplex {
-    (($field:ty, $alloc:expr, $way:expr, $steps:expr), $turn:literal, $width:literal, $rate:literal) => {{
-        let challenger =
-            DuplexChallenger::<$field, Turn<$turn>, $width, $rate>::new(Turn, DRAW_LIMIT);
-        difference_on($alloc, challenger, $way, $steps)
-    }};
+macro_rules! new_duplex {
+    (($field:ty, $way:expr), $turn:literal, $width:literal, $rate:literal) => {
+        Subject {
+            challenger: DuplexChallenger::<$field, Turn<$turn>, $width, $rate>::new(
+                Turn,
+                DRAW_LIMIT,
+            ),
+            way: $way,
+        }
+    };
 }
 
 // The first difference on a duplex challenger of the shape that the line has.
 macro_rules! duplex_difference {
-    ($field:ty, $alloc:expr, $way:expr, $shape:expr, $steps:expr) => {
+    ($field:ty, $way:expr, $alloc:expr, $shape:expr, $steps:expr) => {
         match $shape {
-            "1 3 2" => on_new_duplex!(($field, $alloc, $way, $steps), 1, 3, 2),
-            _ => difference_over!(on_new_duplex, ($field, $alloc, $way, $steps), $shape),
+            "1 3 2" => first_difference($alloc, new_duplex!(($field, $way), 1, 3, 2), $steps),
+            _ => difference_over!(new_duplex, ($field, $way), $alloc, $shape, $steps),
         }
     };
 }
@@ -58,7 +62,7 @@ fn over_baby_bear(
     shape: &str,
     steps: &[Step<'_>],
 ) -> Result<Option<(usize, String)>> {
-    duplex_difference!(BabyBear, alloc, way, shape, steps)
+    duplex_difference!(BabyBear, way, alloc, shape, steps)
 }
 
 fn over_goldilocks(
@@ -67,7 +71,7 @@ fn over_goldilocks(
     shape: &str,
     steps: &[Step<'_>],
 ) -> Result<Option<(usize, String)>> {
-    duplex_difference!(Goldilocks, alloc, way, shape, steps)
+    duplex_difference!(Goldilocks, way, alloc, shape, steps)
 }
 
 fn over_f257(
@@ -76,22 +80,7 @@ fn over_f257(
     shape: &str,
     steps: &[Step<'_>],
 ) -> Result<Option<(usize, String)>> {
-    duplex_difference!(F257, alloc, way, shape, steps)
-}
-
-// (generic, so that it is proved once that calls can be made on a duplex challenger)
-fn difference_on<
-    F: Extended + PackedField,
-    P: LanePermutation<F, W>,
-    const W: usize,
-    const R: usize,
->(
-    alloc: Global,
-    challenger: DuplexChallenger<F, P, W, R>,
-    way: Way,
-    steps: &[Step<'_>],
-) -> Result<Option<(usize, String)>> {
-    first_difference(alloc, Subject { challenger, way }, steps)
+    duplex_difference!(F257, way, alloc, shape, steps)
 }
 
 impl<F: Extended + PackedField, P: LanePermutation<F, W>, const W: usize, const R: usize> Replayed

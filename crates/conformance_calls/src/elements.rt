@@ -8,10 +8,10 @@ use crate::subject::{
 use crate::work::{WorkCall, plain_work};
 use anyhow::{Result, bail};
 use conformance_tokens::answer;
-use conformance_tokens::symbol::{Extended, Symbol, coefficients_of, element_of, symbols};
+use conformance_tokens::symbol::{Extended, coefficients_of, element_of, symbols};
 use p3_challenger_core::{CanSample, FieldChallenger};
 use p3_codecs::{ExtensionFieldCodec, FieldToFieldCodec, FieldUnit};
-use p3_field::{BasedVectorSpace, PrimeField64};
+use p3_field::BasedVectorSpace;
 use p3_grinding::GrindingChallenger;
 use std::alloc::Global;
 
@@ -70,40 +70,22 @@ fn observe_row<F: Extended, C: FieldChallenger<F>>(
 ) -> Result<()> {
     match kind {
         RowKind::Slice => Ok(challenger.observe_slice(row)?),
-        RowKind::AlgebraElement => observe_algebra_element::<F, F::Extension, C>(challenger, row),
-        RowKind::AlgebraSlice => observe_algebra_slice::<F, F::Extension, C>(
-            alloc, challenger, row,
-        ),
+        RowKind::AlgebraElement => {
+            let element: F::Extension = element_of(row)?;
+            Ok(challenger.observe_algebra_element(element)?)
+        }
+        RowKind::AlgebraSlice => {
+            let slice = extension_elements::<F>(alloc, row)?;
+            Ok(challenger.observe_algebra_slice(slice.as_slice())?)
+        }
     }
 }
 
-// (The algebra is a parameter of its own here: with values of `F::Extension` such functions take several times as long
-// to prove.)
-fn observe_algebra_element<F: PrimeField64, A: BasedVectorSpace<F>, C: FieldChallenger<F>>(
-    challenger: &mut C,
-    coefficients: &[F],
-) -> Result<()> {
-    let element: A = element_of(coefficients)?;
-    Ok(challenger.observe_algebra_element(element)?)
-}
-
-fn observe_algebra_slice<F: PrimeField64, A: BasedVectorSpace<F>, C: FieldChallenger<F>>(
-    alloc: Global,
-    challenger: &mut C,
-    coefficients: &[F],
-) -> Result<()> {
-    let slice: Vec<A> = elements_of(alloc, coefficients)?;
-    Ok(challenger.observe_algebra_slice(slice.as_slice())?)
-}
-
-// The elements of four coefficients each.
-fn elements_of<F: PrimeField64, A: BasedVectorSpace<F>>(
-    alloc: Global,
-    coefficients: &[F],
-) -> Result<Vec<A>> {
+fn extension_elements<F: Extended>(alloc: Global, coefficients: &[F]) -> Result<Vec<F::Extension>> {
     let mut found = Vec::new(alloc);
     for coefficients in coefficients.chunks(4) {
-        found.push(element_of(coefficients)?)?;
+        let element: F::Extension = element_of(coefficients)?;
+        found.push(element)?;
     }
     Ok(found)
 }
@@ -142,7 +124,10 @@ fn draw_on<F: Extended, C: FieldChallenger<F> + CanSample<F::Extension>>(
     match draw {
         Draw::Value | Draw::Values(_, _) => draw_symbols(alloc, challenger, draw, zero),
         Draw::Extension => draw_extension::<F, F::Extension, C>(alloc, challenger),
-        Draw::AlgebraElement => draw_algebra_element::<F, F::Extension, C>(alloc, challenger),
+        Draw::AlgebraElement => {
+            let element: F::Extension = challenger.sample_algebra_element()?;
+            coefficients_of(alloc, &element)
+        }
         Draw::MostBits => Ok(vec![in alloc; most_bits(challenger) as u64]?),
         Draw::Bits(bits) => Ok(vec![in alloc; draw_bits(challenger, bits)?]?),
         Draw::Element(1) => draw_element::<F, F, FieldToFieldCodec<F>, C>(alloc, challenger),
@@ -153,12 +138,4 @@ fn draw_on<F: Extended, C: FieldChallenger<F> + CanSample<F::Extension>>(
             C,
         >(alloc, challenger),
     }
-}
-
-fn draw_algebra_element<F: Symbol + PrimeField64, A: BasedVectorSpace<F>, C: FieldChallenger<F>>(
-    alloc: Global,
-    challenger: &mut C,
-) -> Result<Vec<u64>> {
-    let element: A = challenger.sample_algebra_element()?;
-    coefficients_of(alloc, &element)
 }

@@ -32,22 +32,22 @@ pub fn difference(
     let (hasher, initial) = split_name(spec);
     let initial = hex::decode(alloc, initial)?;
     match hasher {
-        "len" => difference_over(alloc, way, initial, LengthHasher, steps),
-        "sum" => difference_over(alloc, way, initial, SumHasher, steps),
-        "sha256" => difference_over(alloc, way, initial, Sha256Hasher, steps),
+        "len" => first_difference(alloc, new_subject(initial, LengthHasher, way), steps),
+        "sum" => first_difference(alloc, new_subject(initial, SumHasher, way), steps),
+        "sha256" => first_difference(alloc, new_subject(initial, Sha256Hasher, way), steps),
         _ => bail!("an unknown hasher"),
     }
 }
 
-fn difference_over<H: CryptographicHasher<u8, [u8; 32]>>(
-    alloc: Global,
-    way: Way,
+fn new_subject<H: CryptographicHasher<u8, [u8; 32]>>(
     initial: Vec<u8>,
     hasher: H,
-    steps: &[Step<'_>],
-) -> Result<Option<(usize, String)>> {
-    let challenger = HashChallenger::new(initial, hasher);
-    first_difference(alloc, Subject { challenger, way }, steps)
+    way: Way,
+) -> Hashing<H> {
+    Subject {
+        challenger: HashChallenger::new(initial, hasher),
+        way,
+    }
 }
 
 impl<H: CryptographicHasher<u8, [u8; 32]>> Replayed for Hashing<H> {

@@ -47,16 +47,16 @@ macro_rules! with_challenger {
     };
 }
 
-// The first difference on a new challenger of the shape that the line has, which the macro `$on_new` makes and plays: the
-// places that `Turn` turns by, the width and the rate. Each shape over each field is proved by itself, so they are few.
+// The first difference on a new challenger of the shape that the line has, which the macro `$new` makes: the places
+// that `Turn` turns by, the width and the rate. Each shape over each field is proved by itself, so they are few.
 // (Each array has to be seen to fit in memory, so no function that makes a challenger is generic over the field.)
 macro_rules! difference_over {
-    ($on_new:ident, $of:tt, $shape:expr) => {
+    ($new:ident, $of:tt, $alloc:expr, $shape:expr, $steps:expr) => {
         match $shape {
-            "1 2 1" => $on_new!($of, 1, 2, 1),
-            "2 3 2" => $on_new!($of, 2, 3, 2),
-            "2 5 3" => $on_new!($of, 2, 5, 3),
-            "9 16 8" => $on_new!($of, 9, 16, 8),
+            "1 2 1" => first_difference($alloc, $new!($of, 1, 2, 1), $steps),
+            "2 3 2" => first_difference($alloc, $new!($of, 2, 3, 2), $steps),
+            "2 5 3" => first_difference($alloc, $new!($of, 2, 5, 3), $steps),
+            "9 16 8" => first_difference($alloc, $new!($of, 9, 16, 8), $steps),
             _ => bail!("an unknown shape"),
         }
     };

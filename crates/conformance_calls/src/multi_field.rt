@@ -12,7 +12,7 @@ use conformance_tokens::tokens::split_name;
 use p3_field::{
     BabyBear, F257, FieldBridge, Goldilocks, PrimeCharacteristicRing, PrimeField32, PrimeField64,
 };
-use p3_multi_field::{MultiField32Challenger, MultiField32ChallengerError};
+use p3_multi_field::MultiField32Challenger;
 use p3_symmetric::{CryptographicPermutation, Turn};
 use std::alloc::Global;
 
@@ -51,17 +51,22 @@ pub fn difference(
     }
 }
 
-macro_rules! on_new_multi_field {
-    (
-        ($scalars:ty, $cells:ident, $alloc:expr, $way:expr, $steps:expr),
-        $turn:literal,
-        $width:literal,
-        $rate:literal
-    ) => {{
-        let made =
-            MultiField32Challenger::<$scalars, $cells, Turn<$turn>, $width, $rate>::new(Turn);
-        difference_on($alloc, made, [$cells::ZERO; $rate], $way, $steps)
-    }};
+macro_rules! new_multi_field {
+    (($scalars:ty, $cells:ident, $way:expr), $turn:literal, $width:literal, $rate:literal) => {
+        TwoFields {
+            subject: Subject {
+                challenger: MultiField32Challenger::<
+                    $scalars,
+                    $cells,
+                    Turn<$turn>,
+                    $width,
+                    $rate,
+                >::new(Turn)?,
+                way: $way,
+            },
+            row: [$cells::ZERO; $rate],
+        }
+    };
 }
 
 fn over_goldilocks(
@@ -71,9 +76,11 @@ fn over_goldilocks(
     steps: &[Step<'_>],
 ) -> Result<Option<(usize, String)>> {
     difference_over!(
-        on_new_multi_field,
-        (BabyBear, Goldilocks, alloc, way, steps),
-        shape
+        new_multi_field,
+        (BabyBear, Goldilocks, way),
+        alloc,
+        shape,
+        steps
     )
 }
 
@@ -83,32 +90,7 @@ fn over_baby_bear(
     shape: &str,
     steps: &[Step<'_>],
 ) -> Result<Option<(usize, String)>> {
-    difference_over!(
-        on_new_multi_field,
-        (F257, BabyBear, alloc, way, steps),
-        shape
-    )
-}
-
-// (generic, so that it is proved once that calls can be made on a multi-field challenger)
-fn difference_on<
-    F: Extended + PrimeField32,
-    PF: PrimeField64 + FieldBridge<F, PF> + Symbol,
-    P: CryptographicPermutation<[PF; W]>,
-    const W: usize,
-    const R: usize,
->(
-    alloc: Global,
-    made: Result<MultiField32Challenger<F, PF, P, W, R>, MultiField32ChallengerError>,
-    row: [PF; R],
-    way: Way,
-    steps: &[Step<'_>],
-) -> Result<Option<(usize, String)>> {
-    let subject = Subject {
-        challenger: made?,
-        way,
-    };
-    first_difference(alloc, TwoFields { subject, row }, steps)
+    difference_over!(new_multi_field, (F257, BabyBear, way), alloc, shape, steps)
 }
 
 impl<

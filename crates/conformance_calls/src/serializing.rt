@@ -50,27 +50,34 @@ fn difference_over<F: Extended + SerializedIn<BYTES>, const BYTES: usize>(
     let (hasher, initial) = split_name(spec);
     let initial = hex::decode(alloc, initial)?;
     match hasher {
-        "len" => difference_of::<F, _, BYTES>(alloc, way, initial, LengthHasher, steps),
-        "sum" => difference_of::<F, _, BYTES>(alloc, way, initial, SumHasher, steps),
-        "sha256" => difference_of::<F, _, BYTES>(alloc, way, initial, Sha256Hasher, steps),
+        "len" => first_difference(
+            alloc,
+            new_subject::<F, _, BYTES>(initial, LengthHasher, way),
+            steps,
+        ),
+        "sum" => first_difference(
+            alloc,
+            new_subject::<F, _, BYTES>(initial, SumHasher, way),
+            steps,
+        ),
+        "sha256" => first_difference(
+            alloc,
+            new_subject::<F, _, BYTES>(initial, Sha256Hasher, way),
+            steps,
+        ),
         _ => bail!("an unknown hasher"),
     }
 }
 
-fn difference_of<
-    F: Extended + SerializedIn<BYTES>,
-    H: CryptographicHasher<u8, [u8; 32]>,
-    const BYTES: usize,
->(
-    alloc: Global,
-    way: Way,
+fn new_subject<F, H: CryptographicHasher<u8, [u8; 32]>, const BYTES: usize>(
     initial: Vec<u8>,
     hasher: H,
-    steps: &[Step<'_>],
-) -> Result<Option<(usize, String)>> {
-    let challenger: SerializingChallenger<F, HashChallenger<u8, H, 32>, BYTES> =
-        SerializingChallenger::from_hasher(initial, hasher, DRAW_LIMIT);
-    first_difference(alloc, Subject { challenger, way }, steps)
+    way: Way,
+) -> Serializing<F, HashChallenger<u8, H, 32>, BYTES> {
+    Subject {
+        challenger: SerializingChallenger::from_hasher(initial, hasher, DRAW_LIMIT),
+        way,
+    }
 }
 
 impl<

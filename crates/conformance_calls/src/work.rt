@@ -2,7 +2,6 @@
 use crate::subject::{Subject, Way, most_bits};
 use anyhow::{Result, bail};
 use conformance_tokens::symbol::element;
-use conformance_tokens::tokens::split_name;
 use p3_field::PrimeField64;
 use p3_grinding::{
     CanSampleUniformBits, GrindingChallenger, UniformBitsError, UniformGrindingChallenger,
@@ -51,14 +50,19 @@ impl WorkCall {
 
 impl Work {
     fn parse(words: &str) -> Result<Work> {
-        let (bits, witness) = split_name(words);
-        Ok(Work {
-            bits: bits.parse()?,
-            witness: match witness {
-                "" => None,
-                number => Some(number.parse()?),
-            },
-        })
+        match words.split_once(' ') {
+            Some((bits, witness)) => {
+                let (bits, witness) = (bits.parse()?, Some(witness.parse()?));
+                Ok(Work { bits, witness })
+            }
+            None => {
+                let bits = words.parse()?;
+                Ok(Work {
+                    bits,
+                    witness: None,
+                })
+            }
+        }
     }
 }
 

@@ -74,12 +74,15 @@ impl Add for Goldilocks {
     ghost add_gives = { λ x y r. r ≡ sum_of residues x y };
 
     fn add(self, rhs: Goldilocks) -> Goldilocks {
-        // The sum is `self - room`, and where that is below 0 the order more: 2^32 - 1 less, modulo 2^64. Written as
-        // `self + rhs` there, a compiler makes it a branch that is taken at random.
-        let room = ORDER - rhs.value;
-        let borrowed = if self.value < room { 0xffff_ffff } else { 0 };
+        // The sum is what is left where the room up to the order is taken off, and where that is more than there is, the
+        // order more.
+        let (left, is_below) = self.value.overflowing_sub(ORDER - rhs.value);
         Goldilocks {
-            value: self.value.wrapping_sub(room).wrapping_sub(borrowed),
+            value: if is_below {
+                left.wrapping_add(ORDER)
+            } else {
+                left
+            },
         }
     }
 }

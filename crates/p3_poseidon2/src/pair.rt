@@ -57,8 +57,8 @@ impl<F: PrimeCharacteristicRing> Mul for Pair<F> {
     }
 }
 
-// The products in both lanes, by a call.
-#[inline(never)]
+// The products in both lanes.
+#[inline(always)]
 fn products<F: PrimeCharacteristicRing>(x: Pair<F>, y: Pair<F>) -> Pair<F>
     ensures first { result.first ≡ product_of F.residues x.first y.first }
     ensures second { result.second ≡ product_of F.residues x.second y.second }

@@ -24,11 +24,18 @@ fn folded_parts(low: u64, middle: u64, high: u64) -> u64
     } else {
         low - high
     };
-    let raised = middle * 0xffff_ffff;
-    let room = ORDER - raised;
-    if lowered < room {
-        lowered + raised
-    } else {
-        lowered - room
-    }
+    reduced_sum(lowered, middle * 0xffff_ffff)
+}
+
+// The sum of numbers modulo the order, where it is below twice the order. The number of 2^64 in it once it has 2^32 - 1 more
+// says whether the order is taken off: a compiler makes a comparison there one in vectors, which costs more than it saves.
+#[inline(always)]
+fn reduced_sum(x: u64, y: u64) -> u64
+    requires { x + y < 2 * order }
+    ensures { result ≡ (x + y) % order }
+{
+    let sum = u128::from(x) + u128::from(y);
+    let excess = ((sum + 0xffff_ffff) >> 64) as u64;
+    let low = (sum & 0xffff_ffff_ffff_ffff) as u64;
+    low.wrapping_add(excess * 0xffff_ffff)
 }
