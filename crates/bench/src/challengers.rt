@@ -1,18 +1,16 @@
 // The challengers whose calls are timed, each over a permutation that turns cells and over one that mixes them.
-ghost use Rattle.std.specs.Prelude.{◌<◌};
-
 use crate::by_call::ByCall;
 use crate::calls::{Calls, Player};
 use crate::timing::{Row, measure};
 use crate::work::{Uniform, Work};
 use anyhow::Result;
 use p3_challenger::{
-    CanCopy, CanObserve, CanSample, DuplexChallenger, GrindingChallenger, LanePermutation,
-    MultiField32Challenger, UniformGrindingChallenger,
+    CanCopy, CanObserve, CanSample, DuplexChallenger, MultiField32Challenger,
+    UniformGrindingChallenger,
 };
 use p3_field::{BabyBear, Goldilocks, PrimeCharacteristicRing};
 use p3_poseidon2::{default_babybear_poseidon2_16, default_goldilocks_poseidon2_8};
-use p3_symmetric::{CryptographicPermutation, Turn};
+use p3_symmetric::Turn;
 
 type Duplex<P> = DuplexChallenger<BabyBear, P, 16, 8>;
 
@@ -167,79 +165,45 @@ fn measure_duplex(rt: &HostRuntime, runs: u32, values: &[BabyBear]) -> Result<u6
         work: &DUPLEX_BITS,
         uniform: &DUPLEX_UNIFORM,
     };
-    let first = measure_sponge(rt, runs, Turn::<1>, values, turn)?;
+    let first = measure_rows(rt, runs, &Duplex::<Turn<1>>::new(Turn, 1), values, turn)?;
     let worked = Rows {
         calls: &[],
         work: &WORKED,
         uniform: &WORKED_UNIFORM,
     };
-    let called = ByCall {
-        permutation: Turn::<9>,
-    };
-    let second = measure_sponge(rt, runs, called, values, worked)?;
+    let called: ByCall<Turn<9>> = ByCall { permutation: Turn };
+    let second = measure_rows(rt, runs, &Duplex::new(called, 1), values, worked)?;
     let mixed = Rows {
         calls: &MIXED,
         work: &MIXED_WORK,
         uniform: &MIXED_UNIFORM,
     };
-    let third = measure_sponge(rt, runs, default_babybear_poseidon2_16(), values, mixed)?;
+    let challenger = Duplex::new(default_babybear_poseidon2_16(), 1);
+    let third = measure_rows(rt, runs, &challenger, values, mixed)?;
     Ok(first.wrapping_add(second).wrapping_add(third))
 }
 
-// Of any permutation, so that what the challenger has to be is proved once for all of them.
-fn measure_sponge<P: LanePermutation<BabyBear, 16>>(
-    rt: &HostRuntime,
-    runs: u32,
-    permutation: P,
-    values: &[BabyBear],
-    rows: Rows<'_>,
-) -> Result<u64> {
-    measure_rows(rt, runs, &Duplex::new(permutation, 1), values, rows)
-}
-
 fn measure_multi_field(rt: &HostRuntime, runs: u32, values: &[BabyBear]) -> Result<u64> {
-    let calls = measure_fields::<_, 16, 8>(rt, runs, Turn::<1>, values, &MULTI_FIELD, &[])?;
-    let called = ByCall {
-        permutation: Turn::<9>,
+    let challenger = MultiField::<Turn<1>, 16, 8>::new(Turn)?;
+    let player = Player {
+        challenger: &challenger,
+        values,
     };
-    let work = measure_fields::<_, 16, 8>(rt, runs, called, values, &[], &MULTI_FIELD_WORK)?;
-    let poseidon2 = default_goldilocks_poseidon2_8();
-    let mixed = measure_fields::<_, 8, 4>(rt, runs, poseidon2, values, &[], &MULTI_FIELD_MIXED)?;
+    let calls = measure(rt, runs, &player, "", &MULTI_FIELD)?;
+    let called: ByCall<Turn<9>> = ByCall { permutation: Turn };
+    let challenger = MultiField::<_, 16, 8>::new(called)?;
+    let player = Player {
+        challenger: &challenger,
+        values,
+    };
+    let work = measure(rt, runs, &player, "", &MULTI_FIELD_WORK)?;
+    let challenger = MultiField::<_, 8, 4>::new(default_goldilocks_poseidon2_8())?;
+    let player = Player {
+        challenger: &challenger,
+        values,
+    };
+    let mixed = measure(rt, runs, &player, "", &MULTI_FIELD_MIXED)?;
     Ok(calls.wrapping_add(work).wrapping_add(mixed))
-}
-
-// Of any permutation, as above.
-fn measure_fields<
-    P: CryptographicPermutation<[Goldilocks; WIDTH]>,
-    const WIDTH: usize,
-    const RATE: usize,
->(
-    rt: &HostRuntime,
-    runs: u32,
-    permutation: P,
-    values: &[BabyBear],
-    calls: &[Row<Calls>],
-    work: &[Row<Work>],
-) -> Result<u64>
-    requires rate { 0 < RATE }
-    requires capacity { RATE < WIDTH }
-{
-    let challenger = MultiField::<P, WIDTH, RATE>::new(permutation)?;
-    measure_worked(rt, runs, &challenger, values, calls, work)
-}
-
-fn measure_worked<C: CanObserve<BabyBear> + CanSample<BabyBear> + GrindingChallenger + CanCopy>(
-    rt: &HostRuntime,
-    runs: u32,
-    challenger: &C,
-    values: &[BabyBear],
-    calls: &[Row<Calls>],
-    work: &[Row<Work>],
-) -> Result<u64> {
-    let player = Player { challenger, values };
-    let called = measure(rt, runs, &player, "", calls)?;
-    let worked = measure(rt, runs, &player, "", work)?;
-    Ok(called.wrapping_add(worked))
 }
 
 fn measure_rows<

@@ -3,9 +3,7 @@ use crate::calls::{Calls, Player};
 use crate::timing::{Lap, Row, Timed, measure, nanoseconds_since};
 use crate::work::Work;
 use anyhow::Result;
-use p3_challenger::{
-    CanCopy, CanObserve, CanSample, GrindingChallenger, HashChallenger, SerializingChallenger32,
-};
+use p3_challenger::{CanObserve, HashChallenger, SerializingChallenger32};
 use p3_field::{BabyBear, PrimeCharacteristicRing};
 use p3_keccak::Keccak256Hasher;
 use p3_symmetric::{CryptographicHasher, Sha256Hasher};
@@ -144,26 +142,20 @@ fn measure_hashers(rt: &HostRuntime, runs: u32, text: &[u8]) -> Result<u64> {
 }
 
 fn measure_serializing(rt: &HostRuntime, runs: u32) -> Result<u64> {
-    measure_elements(rt, runs, Serializing::new(new_chain(rt.alloc()), 1 << 20))
-}
-
-// Of any challenger, so that what it has to be is proved once for both kinds of rows.
-fn measure_elements<
-    C: CanObserve<BabyBear> + CanSample<BabyBear> + GrindingChallenger + CanCopy + Drop,
->(rt: &HostRuntime, runs: u32, mut challenger: C) -> Result<u64> {
-    let rounds = measure(rt, runs, &without_values(&challenger), "", &SERIALIZING)?;
-    challenger.observe(BabyBear::from_u32(5))?;
+    let mut serializing = Serializing::new(new_chain(rt.alloc()), 1 << 20);
+    let rounds = measure(rt, runs, &without_values(&serializing), "", &SERIALIZING)?;
+    serializing.observe(BabyBear::from_u32(5))?;
     let work = measure(
         rt,
         runs,
-        &without_values(&challenger),
+        &without_values(&serializing),
         "",
         &SERIALIZING_WORK,
     )?;
     Ok(rounds.wrapping_add(work))
 }
 
-fn without_values<C>(challenger: &C) -> Player<'_, BabyBear, C> {
+fn without_values(challenger: &Serializing) -> Player<'_, BabyBear, Serializing> {
     Player {
         challenger,
         values: &[],
