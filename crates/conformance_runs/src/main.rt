@@ -4,11 +4,10 @@
 #![tactic(auto)]
 
 use anyhow::{Result, bail};
-use p3_challenger::fs::script::{BitsPow, Both, Plain, StepGroup};
-use p3_field::F257;
+use p3_challenger::fs::script::{BitsPow, Both, Plain};
 use script_comparison::{Answered, Changes, Worlds, compare_files, play};
 use script_lines::line::Line;
-use script_lines::world::{Notes, Small, Sponge};
+use script_lines::world::{Notes, Small};
 use std::alloc::Global;
 use std::process::ExitCode;
 
@@ -19,24 +18,16 @@ fn main(rt: HostRuntime) -> Result<ExitCode> {
 // The small worlds.
 struct SmallWorlds;
 
+// Each world is named once, since what its suite owes is proved again wherever it is named.
 impl Worlds for SmallWorlds {
     fn play(alloc: Global, line: &Line<'_>, changes: &mut Changes) -> Result<Answered> {
         match line.world {
-            "s" => play_small::<2, Both>(alloc, line, changes),
-            "s_bits" => play_small::<2, BitsPow>(alloc, line, changes),
-            "s_plain" => play_small::<2, Plain>(alloc, line, changes),
-            "s_turn1" => play_small::<1, Both>(alloc, line, changes),
+            "s" => play::<Small<2, Both>>(alloc, line, changes),
+            "s_bits" => play::<Small<2, BitsPow>>(alloc, line, changes),
+            "s_plain" => play::<Small<2, Plain>>(alloc, line, changes),
+            "s_turn1" => play::<Small<1, Both>>(alloc, line, changes),
             "notes" => play::<Notes>(alloc, line, changes),
             _ => bail!("an unknown world"),
         }
     }
-}
-
-// Of any group, so that what the suite owes is proved once for all of them.
-fn play_small<const K: usize, G: StepGroup<Sponge<K>, F257>>(
-    alloc: Global,
-    line: &Line<'_>,
-    changes: &mut Changes,
-) -> Result<Answered> {
-    play::<Small<K, G>>(alloc, line, changes)
 }

@@ -9,15 +9,14 @@ mod keccak_duplex;
 use anyhow::{Result, bail};
 use keccak_duplex::KeccakDuplexSuite;
 use p3_keccak::Keccak256Hasher;
-use p3_symmetric::{DigestHasher, Sha256Hasher};
+use p3_symmetric::Sha256Hasher;
 use script_comparison::{Answered, Changes, Worlds, compare_files, play};
 use script_lines::line::Line;
-use script_lines::suites::Ready;
 use std::alloc::Global;
 use std::process::ExitCode;
 use test_suites::{
-    BabyBearPoseidon2Suite, ByteHasher, GoldilocksPoseidon2Suite, HashSuite,
-    MultiFieldPoseidon2Suite, MultiFieldSuite, Serializing32Suite, Serializing64Suite,
+    BabyBearPoseidon2Suite, GoldilocksPoseidon2Suite, HashSuite, MultiFieldPoseidon2Suite,
+    MultiFieldSuite, Serializing32Suite, Serializing64Suite,
 };
 
 fn main(rt: HostRuntime) -> Result<ExitCode> {
@@ -27,12 +26,13 @@ fn main(rt: HostRuntime) -> Result<ExitCode> {
 // A suite over each challenger that users take.
 struct Suites;
 
+// Each world is named once, since what its suite owes is proved again wherever it is named.
 impl Worlds for Suites {
     fn play(alloc: Global, line: &Line<'_>, changes: &mut Changes) -> Result<Answered> {
         match line.world {
-            "hash" => play_hash::<Sha256Hasher>(alloc, line, changes),
-            "ser32" => play_serializing32::<Sha256Hasher, Sha256Hasher>(alloc, line, changes),
-            "ser64" => play_serializing64::<Sha256Hasher>(alloc, line, changes),
+            "hash" => play::<HashSuite<Sha256Hasher>>(alloc, line, changes),
+            "ser32" => play::<Serializing32Suite<Sha256Hasher, Sha256Hasher>>(alloc, line, changes),
+            "ser64" => play::<Serializing64Suite<Sha256Hasher, Sha256Hasher>>(alloc, line, changes),
             "multi" => play::<MultiFieldSuite>(alloc, line, changes),
             _ => play_with_keccak(alloc, line, changes),
         }
@@ -42,41 +42,20 @@ impl Worlds for Suites {
 // Plays a line whose pattern is hashed by Keccak-256, as in the Rust crate.
 fn play_with_keccak(alloc: Global, line: &Line<'_>, changes: &mut Changes) -> Result<Answered> {
     match line.world {
-        "keccak_hash" => play_hash::<Keccak256Hasher>(alloc, line, changes),
+        "keccak_hash" => play::<HashSuite<Keccak256Hasher>>(alloc, line, changes),
         "keccak_ser32" => {
-            play_serializing32::<Keccak256Hasher, Keccak256Hasher>(alloc, line, changes)
+            play::<Serializing32Suite<Keccak256Hasher, Keccak256Hasher>>(alloc, line, changes)
         }
-        "keccak_ser64" => play_serializing64::<Keccak256Hasher>(alloc, line, changes),
-        "sha256_ser32" => play_serializing32::<Sha256Hasher, Keccak256Hasher>(alloc, line, changes),
+        "keccak_ser64" => {
+            play::<Serializing64Suite<Keccak256Hasher, Keccak256Hasher>>(alloc, line, changes)
+        }
+        "sha256_ser32" => {
+            play::<Serializing32Suite<Sha256Hasher, Keccak256Hasher>>(alloc, line, changes)
+        }
         "keccak_duplex" => play::<KeccakDuplexSuite>(alloc, line, changes),
         "poseidon2_baby_bear" => play::<BabyBearPoseidon2Suite>(alloc, line, changes),
         "poseidon2_goldilocks" => play::<GoldilocksPoseidon2Suite>(alloc, line, changes),
         "poseidon2_multi" => play::<MultiFieldPoseidon2Suite>(alloc, line, changes),
         _ => bail!("an unknown world"),
     }
-}
-
-// These three are of any hash function, so that what a suite owes is proved once for both.
-fn play_hash<H: ByteHasher + Ready>(
-    alloc: Global,
-    line: &Line<'_>,
-    changes: &mut Changes,
-) -> Result<Answered> {
-    play::<HashSuite<H>>(alloc, line, changes)
-}
-
-fn play_serializing32<H: ByteHasher + Ready, D: DigestHasher>(
-    alloc: Global,
-    line: &Line<'_>,
-    changes: &mut Changes,
-) -> Result<Answered> {
-    play::<Serializing32Suite<H, D>>(alloc, line, changes)
-}
-
-fn play_serializing64<H: ByteHasher + Ready>(
-    alloc: Global,
-    line: &Line<'_>,
-    changes: &mut Changes,
-) -> Result<Answered> {
-    play::<Serializing64Suite<H>>(alloc, line, changes)
 }

@@ -11,7 +11,7 @@ pub mod recording;
 mod rule;
 pub mod script;
 pub mod steps;
-pub mod suites;
+mod suites;
 pub mod values;
 pub mod words;
 pub mod world;

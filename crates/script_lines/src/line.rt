@@ -1,6 +1,5 @@
 // One line of a file: a script that both sides play, and what is to be answered.
-use anyhow::{Result, bail};
-use conformance_tokens::tokens::split_name;
+use anyhow::{Context, Result, bail};
 use std::alloc::Global;
 
 /// How much an answer tells.
@@ -36,45 +35,37 @@ impl<'a> Line<'a> {
     /// Reads a line `run WORLD VERSION NAME [CHUNK..] | STEPS | ANSWER`. The error says what is no such line, or that
     /// memory ran out.
     pub fn parse(alloc: Global, text: &'a str) -> Result<Line<'a>> {
-        let parts: Vec<&str> = text.split(" | ").collect(alloc)?;
-        let (spec, script, pattern, answer) = match parts.as_slice() {
-            [spec, script, answer] => (*spec, *script, None, *answer),
-            [spec, script, pattern, answer] => {
-                (*spec, *script, pattern.strip_prefix("pattern "), *answer)
+        let (spec, rest) = text.split_once(" | ").context("no steps")?;
+        let (script, rest) = rest.split_once(" | ").context("no answer")?;
+        let (pattern, answer) = match rest.strip_prefix("pattern ") {
+            Some(rest) => {
+                let (pattern, answer) = rest.split_once(" | ").context("no answer")?;
+                (Some(pattern), answer)
             }
-            _ => bail!("no steps, or no answer"),
+            None => (None, rest),
         };
-        let (form, rest) = split_name(spec);
-        let (world, rest) = split_name(rest);
-        let (version, rest) = split_name(rest);
-        let (name, chunks) = split_name(rest);
+        let mut tokens = spec.split_whitespace();
+        let form = match tokens.next() {
+            Some("run") => Form::Short,
+            Some("play") => Form::Long,
+            _ => bail!("neither run nor play"),
+        };
+        let world = tokens.next().context("no world")?;
+        let version = tokens.next().context("no version")?.parse()?;
+        let name = tokens.next().context("no name")?;
+        let mut chunks = Vec::new(alloc);
+        for token in tokens {
+            chunks.push(hex::decode(alloc, token)?)?;
+        }
         Ok(Line {
-            form: Form::parse(form)?,
+            form,
             world,
-            version: version.parse()?,
+            version,
             name,
-            chunks: parse_chunks(alloc, chunks)?,
+            chunks,
             script,
             pattern,
             answer,
         })
     }
-}
-
-impl Form {
-    fn parse(name: &str) -> Result<Form> {
-        match name {
-            "run" => Ok(Form::Short),
-            "play" => Ok(Form::Long),
-            _ => bail!("neither run nor play"),
-        }
-    }
-}
-
-fn parse_chunks(alloc: Global, tokens: &str) -> Result<Vec<Vec<u8>>> {
-    let mut chunks = Vec::new(alloc);
-    for token in tokens.split_whitespace() {
-        chunks.push(hex::decode(alloc, token)?)?;
-    }
-    Ok(chunks)
 }

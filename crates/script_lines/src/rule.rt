@@ -1,4 +1,5 @@
 // The rules of draws that may be rejected, as a file names them.
+use anyhow::Result;
 use p3_challenger::fs::script::AcceptRule;
 use p3_field::{F257, PrimeCharacteristicRing, PrimeField64};
 
@@ -9,6 +10,16 @@ pub enum Rule {
     Distinct,
     /// A number: those of at least this number.
     AtLeast(u64),
+}
+
+impl Rule {
+    /// Reads a rule.
+    pub fn parse(token: &str) -> Result<Rule> {
+        match token {
+            "distinct" => Ok(Rule::Distinct),
+            _ => Ok(Rule::AtLeast(token.parse()?)),
+        }
+    }
 }
 
 impl AcceptRule<F257> for Rule {

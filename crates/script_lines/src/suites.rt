@@ -1,228 +1,301 @@
-// What a world takes of the types of its suite: challengers that observed nothing yet, and values and rules by their tokens.
-// Each impl is of a family of types, and so is proved once for all suites that have one of it.
-ghost use Rattle.std.specs.Prelude.{◌≤◌};
-
-use crate::rule::Rule;
-use crate::values::scalars;
+// The other worlds: a suite over each other challenger and each alphabet.
+use crate::world::World;
 use anyhow::{Result, bail};
-use conformance_tokens::symbol::element;
+use conformance_tokens::symbol::{Symbol, symbols};
 use conformance_tokens::tokens::parse_row;
 use p3_challenger::fs::script::AcceptAll;
 use p3_challenger::{
-    DuplexChallenger, HashChallenger, MultiField32Challenger, SerializingChallenger,
+    DuplexChallenger, HashChallenger, MultiField32Challenger, SerializingChallenger32,
+    SerializingChallenger64,
 };
-use p3_field::{
-    FieldBridge, Goldilocks, Named, PrimeField32, PrimeField64, SmallOrder, SmallPrime,
-};
+use p3_field::{BabyBear, F257, Goldilocks};
 use p3_keccak::Keccak256Hasher;
 use p3_poseidon2::{
     Poseidon2BabyBear16, Poseidon2Goldilocks8, default_babybear_poseidon2_16,
     default_goldilocks_poseidon2_8,
 };
-use p3_symmetric::{CryptographicHasher, CryptographicPermutation, Hash, Sha256Hasher, Turn};
+use p3_symmetric::{Hash, Sha256Hasher, Turn};
 use std::alloc::Global;
+use test_suites::{
+    BabyBearPoseidon2Suite, GoldilocksPoseidon2Suite, HashSuite, MultiFieldPoseidon2Suite,
+    MultiFieldSuite, Serializing32Suite, Serializing64Suite,
+};
 
-/// A challenger that scripts are played with.
-pub trait Fresh: Sized {
-    /// One that observed nothing yet.
-    fn fresh(alloc: Global) -> Result<Self>;
+// How many candidates a draw of an element tries at most.
+const DRAW_LIMIT: u64 = 1000;
 
-    /// What is told of it in place of what it draws next, if anything is.
-    fn told(&self, alloc: Global) -> Result<Option<String>>;
-}
-
-/// A hash function or a permutation as the worlds have it.
-pub trait Ready {
-    fn ready() -> Self;
-}
-
-impl Ready for Sha256Hasher {
-    fn ready() -> Sha256Hasher {
-        Sha256Hasher
+fn accept_all(token: &str) -> Result<AcceptAll> {
+    match token {
+        "0" => Ok(AcceptAll),
+        _ => bail!("a rule that this world has not"),
     }
 }
 
-impl Ready for Keccak256Hasher {
-    fn ready() -> Keccak256Hasher {
-        Keccak256Hasher
-    }
+// The 32 bytes of these hexadecimal digits.
+fn digest_of_bytes(tokens: &str) -> Result<[u8; 32]> {
+    let mut value = [0; 32];
+    hex::decode_to_slice(tokens, &mut value)?;
+    Ok(value)
 }
 
-impl<const K: usize> Ready for Turn<K> {
-    fn ready() -> Turn<K> {
-        Turn
-    }
+// A digest of so many elements.
+fn digest<T: Symbol, const N: usize>(alloc: Global, tokens: &str) -> Result<[T; N]> {
+    let numbers = parse_row(alloc, tokens)?;
+    let elements: Vec<T> = symbols(alloc, numbers.as_slice())?;
+    Ok(<[T; N]>::try_from(elements.as_slice())?)
 }
 
-impl Ready for Poseidon2BabyBear16 {
-    fn ready() -> Poseidon2BabyBear16 {
-        default_babybear_poseidon2_16()
-    }
+// A digest of four words.
+fn digest_of_words(alloc: Global, tokens: &str) -> Result<[u64; 4]> {
+    let words = parse_row(alloc, tokens)?;
+    Ok(<[u64; 4]>::try_from(words.as_slice())?)
 }
 
-impl Ready for Poseidon2Goldilocks8 {
-    fn ready() -> Poseidon2Goldilocks8 {
-        default_goldilocks_poseidon2_8()
-    }
-}
-
-// How many candidates a draw tries at most: more than any script has refused in a row.
-fn draw_limit<F: PrimeField64>() -> u64
-    ensures { 1 ≤ result }
-{
-    if F::ORDER_U64 < 1000 { 10 } else { 1000 }
-}
-
-impl<H: CryptographicHasher<u8, [u8; 32]> + Ready> Fresh for HashChallenger<u8, H, 32> {
-    fn fresh(alloc: Global) -> Result<HashChallenger<u8, H, 32>> {
-        Ok(HashChallenger::new(Vec::new(alloc), H::ready()))
+// A world for each hash function: that of any one would not know how large its challenger is.
+impl World for HashSuite<Sha256Hasher> {
+    fn fresh(alloc: Global) -> Result<HashChallenger<u8, Sha256Hasher, 32>> {
+        Ok(HashChallenger::new(Vec::new(alloc), Sha256Hasher))
     }
 
-    fn told(&self, _alloc: Global) -> Result<Option<String>> {
+    fn opaque(_alloc: Global, tokens: &str) -> Result<[u8; 32]> {
+        digest_of_bytes(tokens)
+    }
+
+    fn rule(token: &str) -> Result<AcceptAll> {
+        accept_all(token)
+    }
+
+    fn told(
+        _alloc: Global,
+        _challenger: &HashChallenger<u8, Sha256Hasher, 32>,
+    ) -> Result<Option<String>> {
         Ok(None)
     }
 }
 
-impl<F: PrimeField64, C: Fresh, const BYTES: usize> Fresh for SerializingChallenger<F, C, BYTES> {
-    fn fresh(alloc: Global) -> Result<SerializingChallenger<F, C, BYTES>> {
-        Ok(SerializingChallenger::new(C::fresh(alloc)?, draw_limit::<F>()))
+impl World for HashSuite<Keccak256Hasher> {
+    fn fresh(alloc: Global) -> Result<HashChallenger<u8, Keccak256Hasher, 32>> {
+        Ok(HashChallenger::new(Vec::new(alloc), Keccak256Hasher))
     }
 
-    fn told(&self, _alloc: Global) -> Result<Option<String>> {
+    fn opaque(_alloc: Global, tokens: &str) -> Result<[u8; 32]> {
+        digest_of_bytes(tokens)
+    }
+
+    fn rule(token: &str) -> Result<AcceptAll> {
+        accept_all(token)
+    }
+
+    fn told(
+        _alloc: Global,
+        _challenger: &HashChallenger<u8, Keccak256Hasher, 32>,
+    ) -> Result<Option<String>> {
         Ok(None)
     }
 }
 
-// How many symbols the seed has where there are no chunks.
-const SEED_LEN: usize = 102;
-
-impl<
-    F: PrimeField64,
-    P: CryptographicPermutation<[F; WIDTH]> + Ready,
-    const WIDTH: usize,
-    const RATE: usize,
-> Fresh for DuplexChallenger<F, P, WIDTH, RATE> {
-    fn fresh(_alloc: Global) -> Result<DuplexChallenger<F, P, WIDTH, RATE>> {
-        if RATE == 0 || RATE >= WIDTH || RATE > 255 {
-            bail!("no rate of a sponge");
-        }
-        Ok(DuplexChallenger::new(P::ready(), draw_limit::<F>()))
+impl World for Serializing32Suite<Sha256Hasher, Sha256Hasher> {
+    fn fresh(
+        alloc: Global,
+    ) -> Result<SerializingChallenger32<BabyBear, HashChallenger<u8, Sha256Hasher, 32>>> {
+        let inner = HashChallenger::new(Vec::new(alloc), Sha256Hasher);
+        Ok(SerializingChallenger32::new(inner, DRAW_LIMIT))
     }
 
-    // A sponge that has room for more than the seed keeps what it is fed until it draws. What it was fed since the seed is
-    // told of it.
-    fn told(&self, alloc: Global) -> Result<Option<String>> {
-        if RATE <= SEED_LEN {
-            return Ok(None);
-        }
-        let mut text = String::from_str(alloc, "fed")?;
-        for symbol in self.input().iter().skip(SEED_LEN) {
-            write!(text, " {}", symbol.as_canonical_u64())?;
-        }
-        Ok(Some(text))
-    }
-}
-
-impl<
-    F: PrimeField32 + Named,
-    C: PrimeField64 + FieldBridge<F, C> + Named,
-    P: CryptographicPermutation<[C; WIDTH]> + Ready,
-    const WIDTH: usize,
-    const RATE: usize,
-> Fresh for MultiField32Challenger<F, C, P, WIDTH, RATE> {
-    fn fresh(_alloc: Global) -> Result<MultiField32Challenger<F, C, P, WIDTH, RATE>> {
-        if RATE == 0 || RATE >= WIDTH {
-            bail!("no rate of a sponge");
-        }
-        Ok(MultiField32Challenger::new(P::ready())?)
+    fn opaque(_alloc: Global, tokens: &str) -> Result<Hash<BabyBear, u8, 32>> {
+        Ok(Hash::from(digest_of_bytes(tokens)?))
     }
 
-    fn told(&self, _alloc: Global) -> Result<Option<String>> {
+    fn rule(token: &str) -> Result<AcceptAll> {
+        accept_all(token)
+    }
+
+    fn told(
+        _alloc: Global,
+        _challenger: &SerializingChallenger32<BabyBear, HashChallenger<u8, Sha256Hasher, 32>>,
+    ) -> Result<Option<String>> {
         Ok(None)
     }
 }
 
-/// A value that a challenger itself knows how to observe.
-pub trait Opaque: Sized {
-    /// The value of these tokens.
-    fn parse(alloc: Global, tokens: &str) -> Result<Self>;
-}
+impl World for Serializing32Suite<Keccak256Hasher, Keccak256Hasher> {
+    fn fresh(
+        alloc: Global,
+    ) -> Result<SerializingChallenger32<BabyBear, HashChallenger<u8, Keccak256Hasher, 32>>> {
+        let inner = HashChallenger::new(Vec::new(alloc), Keccak256Hasher);
+        Ok(SerializingChallenger32::new(inner, DRAW_LIMIT))
+    }
 
-impl<const ORDER: u32> Opaque for SmallPrime<ORDER>
-where
-    Self: SmallOrder<ORDER>,
-{
-    fn parse(_alloc: Global, tokens: &str) -> Result<SmallPrime<ORDER>> {
-        element(tokens.parse()?)
+    fn opaque(_alloc: Global, tokens: &str) -> Result<Hash<BabyBear, u8, 32>> {
+        Ok(Hash::from(digest_of_bytes(tokens)?))
+    }
+
+    fn rule(token: &str) -> Result<AcceptAll> {
+        accept_all(token)
+    }
+
+    fn told(
+        _alloc: Global,
+        _challenger: &SerializingChallenger32<BabyBear, HashChallenger<u8, Keccak256Hasher, 32>>,
+    ) -> Result<Option<String>> {
+        Ok(None)
     }
 }
 
-impl<T: Word, const N: usize> Opaque for [T; N] {
-    fn parse(alloc: Global, tokens: &str) -> Result<[T; N]> {
-        Ok(<[T; N]>::try_from(T::words(alloc, tokens)?.as_slice())?)
+impl World for Serializing32Suite<Sha256Hasher, Keccak256Hasher> {
+    fn fresh(
+        alloc: Global,
+    ) -> Result<SerializingChallenger32<BabyBear, HashChallenger<u8, Sha256Hasher, 32>>> {
+        let inner = HashChallenger::new(Vec::new(alloc), Sha256Hasher);
+        Ok(SerializingChallenger32::new(inner, DRAW_LIMIT))
+    }
+
+    fn opaque(_alloc: Global, tokens: &str) -> Result<Hash<BabyBear, u8, 32>> {
+        Ok(Hash::from(digest_of_bytes(tokens)?))
+    }
+
+    fn rule(token: &str) -> Result<AcceptAll> {
+        accept_all(token)
+    }
+
+    fn told(
+        _alloc: Global,
+        _challenger: &SerializingChallenger32<BabyBear, HashChallenger<u8, Sha256Hasher, 32>>,
+    ) -> Result<Option<String>> {
+        Ok(None)
     }
 }
 
-impl<F, T: Word, const N: usize> Opaque for Hash<F, T, N> {
-    fn parse(alloc: Global, tokens: &str) -> Result<Hash<F, T, N>> {
-        Ok(Hash::from(<[T; N]>::parse(alloc, tokens)?))
+impl World for Serializing64Suite<Sha256Hasher, Sha256Hasher> {
+    fn fresh(
+        alloc: Global,
+    ) -> Result<SerializingChallenger64<Goldilocks, HashChallenger<u8, Sha256Hasher, 32>>> {
+        let inner = HashChallenger::new(Vec::new(alloc), Sha256Hasher);
+        Ok(SerializingChallenger64::new(inner, DRAW_LIMIT))
+    }
+
+    fn opaque(alloc: Global, tokens: &str) -> Result<Hash<Goldilocks, u64, 4>> {
+        Ok(Hash::from(digest_of_words(alloc, tokens)?))
+    }
+
+    fn rule(token: &str) -> Result<AcceptAll> {
+        accept_all(token)
+    }
+
+    fn told(
+        _alloc: Global,
+        _challenger: &SerializingChallenger64<Goldilocks, HashChallenger<u8, Sha256Hasher, 32>>,
+    ) -> Result<Option<String>> {
+        Ok(None)
     }
 }
 
-/// A word of a digest.
-pub trait Word: Copy {
-    /// The words of these tokens.
-    fn words(alloc: Global, tokens: &str) -> Result<Vec<Self>>;
-}
+impl World for Serializing64Suite<Keccak256Hasher, Keccak256Hasher> {
+    fn fresh(
+        alloc: Global,
+    ) -> Result<SerializingChallenger64<Goldilocks, HashChallenger<u8, Keccak256Hasher, 32>>> {
+        let inner = HashChallenger::new(Vec::new(alloc), Keccak256Hasher);
+        Ok(SerializingChallenger64::new(inner, DRAW_LIMIT))
+    }
 
-// Bytes are in hexadecimal.
-impl Word for u8 {
-    fn words(alloc: Global, tokens: &str) -> Result<Vec<u8>> {
-        Ok(hex::decode(alloc, tokens)?)
+    fn opaque(alloc: Global, tokens: &str) -> Result<Hash<Goldilocks, u64, 4>> {
+        Ok(Hash::from(digest_of_words(alloc, tokens)?))
+    }
+
+    fn rule(token: &str) -> Result<AcceptAll> {
+        accept_all(token)
+    }
+
+    fn told(
+        _alloc: Global,
+        _challenger: &SerializingChallenger64<Goldilocks, HashChallenger<u8, Keccak256Hasher, 32>>,
+    ) -> Result<Option<String>> {
+        Ok(None)
     }
 }
 
-impl Word for u64 {
-    fn words(alloc: Global, tokens: &str) -> Result<Vec<u64>> {
-        parse_row(alloc, tokens)
+impl World for MultiFieldSuite {
+    fn fresh(_alloc: Global) -> Result<MultiField32Challenger<F257, BabyBear, Turn<2>, 3, 2>> {
+        Ok(MultiField32Challenger::new(Turn)?)
+    }
+
+    fn opaque(alloc: Global, tokens: &str) -> Result<Hash<F257, BabyBear, 2>> {
+        Ok(Hash::from(digest(alloc, tokens)?))
+    }
+
+    fn rule(token: &str) -> Result<AcceptAll> {
+        accept_all(token)
+    }
+
+    fn told(
+        _alloc: Global,
+        _challenger: &MultiField32Challenger<F257, BabyBear, Turn<2>, 3, 2>,
+    ) -> Result<Option<String>> {
+        Ok(None)
     }
 }
 
-impl<const ORDER: u32> Word for SmallPrime<ORDER>
-where
-    Self: SmallOrder<ORDER>,
-{
-    fn words(alloc: Global, tokens: &str) -> Result<Vec<SmallPrime<ORDER>>> {
-        scalars(alloc, tokens)
+impl World for BabyBearPoseidon2Suite {
+    fn fresh(_alloc: Global) -> Result<DuplexChallenger<BabyBear, Poseidon2BabyBear16, 16, 8>> {
+        Ok(DuplexChallenger::new(default_babybear_poseidon2_16(), DRAW_LIMIT))
+    }
+
+    fn opaque(alloc: Global, tokens: &str) -> Result<Hash<BabyBear, BabyBear, 8>> {
+        Ok(Hash::from(digest(alloc, tokens)?))
+    }
+
+    fn rule(token: &str) -> Result<AcceptAll> {
+        accept_all(token)
+    }
+
+    fn told(
+        _alloc: Global,
+        _challenger: &DuplexChallenger<BabyBear, Poseidon2BabyBear16, 16, 8>,
+    ) -> Result<Option<String>> {
+        Ok(None)
     }
 }
 
-impl Word for Goldilocks {
-    fn words(alloc: Global, tokens: &str) -> Result<Vec<Goldilocks>> {
-        scalars(alloc, tokens)
+impl World for GoldilocksPoseidon2Suite {
+    fn fresh(_alloc: Global) -> Result<DuplexChallenger<Goldilocks, Poseidon2Goldilocks8, 8, 4>> {
+        Ok(DuplexChallenger::new(default_goldilocks_poseidon2_8(), DRAW_LIMIT))
+    }
+
+    fn opaque(alloc: Global, tokens: &str) -> Result<Hash<Goldilocks, Goldilocks, 4>> {
+        Ok(Hash::from(digest(alloc, tokens)?))
+    }
+
+    fn rule(token: &str) -> Result<AcceptAll> {
+        accept_all(token)
+    }
+
+    fn told(
+        _alloc: Global,
+        _challenger: &DuplexChallenger<Goldilocks, Poseidon2Goldilocks8, 8, 4>,
+    ) -> Result<Option<String>> {
+        Ok(None)
     }
 }
 
-/// A rule of draws that may be rejected.
-pub trait ReadRule: Sized {
-    /// The rule of this token.
-    fn parse(token: &str) -> Result<Self>;
-}
-
-impl ReadRule for Rule {
-    fn parse(token: &str) -> Result<Rule> {
-        match token {
-            "distinct" => Ok(Rule::Distinct),
-            _ => Ok(Rule::AtLeast(token.parse()?)),
-        }
+impl World for MultiFieldPoseidon2Suite {
+    fn fresh(
+        _alloc: Global,
+    ) -> Result<MultiField32Challenger<BabyBear, Goldilocks, Poseidon2Goldilocks8, 8, 4>> {
+        Ok(MultiField32Challenger::new(default_goldilocks_poseidon2_8())?)
     }
-}
 
-impl ReadRule for AcceptAll {
-    fn parse(token: &str) -> Result<AcceptAll> {
-        match token {
-            "0" => Ok(AcceptAll),
-            _ => bail!("a rule that this world has not"),
-        }
+    fn opaque(alloc: Global, tokens: &str) -> Result<Hash<BabyBear, Goldilocks, 4>> {
+        Ok(Hash::from(digest(alloc, tokens)?))
+    }
+
+    fn rule(token: &str) -> Result<AcceptAll> {
+        accept_all(token)
+    }
+
+    fn told(
+        _alloc: Global,
+        _challenger: &MultiField32Challenger<BabyBear, Goldilocks, Poseidon2Goldilocks8, 8, 4>,
+    ) -> Result<Option<String>> {
+        Ok(None)
     }
 }

@@ -18,16 +18,18 @@ pub fn extensions<F: PrimeField64, A: BasedVectorSpace<F>>(
     alloc: Global,
     tokens: &str,
 ) -> Result<Vec<A>> {
-    extensions_of(alloc, scalars::<F>(alloc, tokens)?.as_slice())
-}
-
-fn extensions_of<F: PrimeField64, A: BasedVectorSpace<F>>(
-    alloc: Global,
-    scalars: &[F],
-) -> Result<Vec<A>> {
+    let scalars = scalars::<F>(alloc, tokens)?;
     let mut extensions = Vec::new(alloc);
-    for coefficients in scalars.chunks(A::DIMENSION.max(1)) {
-        extensions.push(element_of(coefficients)?)?;
+    let mut coefficients = Vec::new(alloc);
+    for scalar in &scalars {
+        coefficients.push(*scalar)?;
+        if coefficients.len() == A::DIMENSION {
+            extensions.push(element_of(coefficients.as_slice())?)?;
+            coefficients.clear();
+        }
+    }
+    if !coefficients.is_empty() {
+        bail!("no whole element of the extension");
     }
     Ok(extensions)
 }

@@ -1,7 +1,7 @@
 // The worlds that scripts are played in, by the token that a file has for each.
 use crate::rule::Rule;
-use crate::suites::{Fresh, Opaque, ReadRule};
 use anyhow::{Result, bail};
+use conformance_tokens::symbol::element;
 use p3_challenger::DuplexChallenger;
 use p3_challenger::fs::script::{Both, StepGroup, Suite};
 use p3_challenger::fs::{
@@ -12,42 +12,22 @@ use p3_symmetric::{Sha256Hasher, Turn};
 use std::alloc::Global;
 use std::marker::PhantomData;
 
-/// A suite, and what a file needs of it beside.
+/// A suite, and what a file needs of it beside. Each impl here writes all of its methods out: one that the trait gives by
+/// default is tied at each impl to all that its suite is, which costs many times what its own proof does.
 pub trait World: Suite {
     /// A challenger that observed nothing yet.
     fn fresh(alloc: Global) -> Result<Self::Challenger>;
 
-    /// What is told of a challenger in place of what it draws next, if anything is.
-    fn told(alloc: Global, challenger: &Self::Challenger) -> Result<Option<String>>;
+    /// What is told of a challenger in place of what it draws next, if a world tells that.
+    fn told(_alloc: Global, _challenger: &Self::Challenger) -> Result<Option<String>> {
+        Ok(None)
+    }
 
     /// The value of these tokens that the challenger itself knows how to observe.
     fn opaque(alloc: Global, tokens: &str) -> Result<Self::Opaque>;
 
     /// The rule of this token.
     fn rule(token: &str) -> Result<Self::Accept>;
-}
-
-impl<S: Suite> World for S
-where
-    S::Challenger: Fresh,
-    S::Opaque: Opaque,
-    S::Accept: ReadRule,
-{
-    fn fresh(alloc: Global) -> Result<S::Challenger> {
-        S::Challenger::fresh(alloc)
-    }
-
-    fn told(alloc: Global, challenger: &S::Challenger) -> Result<Option<String>> {
-        challenger.told(alloc)
-    }
-
-    fn opaque(alloc: Global, tokens: &str) -> Result<S::Opaque> {
-        S::Opaque::parse(alloc, tokens)
-    }
-
-    fn rule(token: &str) -> Result<S::Accept> {
-        S::Accept::parse(token)
-    }
 }
 
 /// What binds a transcript to a script.
@@ -90,6 +70,27 @@ impl<const K: usize, G: StepGroup<Sponge<K>, F257>> Suite for Small<K, G> {
     ghost clones = { λ _ _ same. same };
 }
 
+// More draws in a row than any script has refused.
+const DRAW_LIMIT: u64 = 10;
+
+impl<const K: usize, G: StepGroup<Sponge<K>, F257>> World for Small<K, G> {
+    fn fresh(_alloc: Global) -> Result<Sponge<K>> {
+        Ok(DuplexChallenger::new(Turn, DRAW_LIMIT))
+    }
+
+    fn opaque(_alloc: Global, tokens: &str) -> Result<F257> {
+        element(tokens.parse()?)
+    }
+
+    fn rule(token: &str) -> Result<Rule> {
+        Rule::parse(token)
+    }
+
+    fn told(_alloc: Global, _challenger: &Sponge<K>) -> Result<Option<String>> {
+        Ok(None)
+    }
+}
+
 /// The small world with so many cells that the challenger keeps what it is fed until it draws.
 pub struct Notes;
 
@@ -122,6 +123,32 @@ impl Suite for Notes {
     ghost alphabet = { lit< tt };
 
     ghost clones = { λ _ _ same. same };
+}
+
+// How many symbols the seed has where there are no chunks.
+const SEED_LEN: usize = 102;
+
+impl World for Notes {
+    fn fresh(_alloc: Global) -> Result<WideSponge> {
+        Ok(DuplexChallenger::new(Turn, DRAW_LIMIT))
+    }
+
+    fn opaque(_alloc: Global, tokens: &str) -> Result<F257> {
+        element(tokens.parse()?)
+    }
+
+    fn rule(token: &str) -> Result<Rule> {
+        Rule::parse(token)
+    }
+
+    // What the challenger was fed since the seed.
+    fn told(alloc: Global, challenger: &WideSponge) -> Result<Option<String>> {
+        let mut text = String::from_str(alloc, "fed")?;
+        for symbol in challenger.input().iter().skip(SEED_LEN) {
+            write!(text, " {}", symbol.as_canonical_u64())?;
+        }
+        Ok(Some(text))
+    }
 }
 
 /// `next n..`, so many scalars that the challenger draws next, or what else its world tells of it.

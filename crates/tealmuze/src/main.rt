@@ -7,9 +7,7 @@ use std::fmt::InlineText;
 use std::io::Write;
 use std::process::ExitCode;
 use std::{env, fs, io};
-use tealmuze_text::answers::Answer;
 use tealmuze_text::command;
-use tealmuze_text::command::Request;
 use tealmuze_text::line::OneLine;
 
 // The exit status where the input is bad.
@@ -30,7 +28,7 @@ fn main(rt: HostRuntime) -> Result<ExitCode> {
     }
 }
 
-// Reads the arguments, and answers what they ask for.
+// Reads the arguments and the files that they name, and writes the answer.
 fn run(rt: &HostRuntime) -> Result<u8> {
     let alloc = rt.alloc();
     let arguments: Vec<String> = env::args(rt)?.collect(alloc)?;
@@ -38,36 +36,23 @@ fn run(rt: &HostRuntime) -> Result<u8> {
         .iter()
         .map(|argument| argument.as_str())
         .collect(alloc)?;
-    match command::parse(alloc, words.as_slice()) {
-        Ok(matches) => respond(rt, &command::request_of(alloc, &matches)?),
+    let matches = match command::parse(alloc, words.as_slice()) {
+        Ok(matches) => matches,
         Err(error) => {
             error.print(rt)?;
-            Ok(error.exit_code() as u8)
+            return Ok(error.exit_code() as u8);
         }
-    }
-}
-
-// Reads the files that a request names, and writes the answer.
-fn respond(rt: &HostRuntime, request: &Request<'_>) -> Result<u8> {
+    };
+    let request = command::request_of(alloc, &matches)?;
     let file = fs::read_to_string(rt, request.file).context(request.file)?;
-    let second = read_second(rt, request.second)?;
-    let (file, second) = (file.as_str(), second.as_slice());
-    let answer = tealmuze_program::respond(rt.alloc(), request, file, second)?;
-    write_answer(rt, &answer)?;
-    Ok(answer.status)
-}
-
-// Reads the file of values or of the proof, where there is one.
-fn read_second(rt: &HostRuntime, path: Option<&str>) -> Result<Vec<u8>> {
-    match path {
-        Some(path) => fs::read(rt, path).context(path),
-        None => Ok(Vec::new(rt.alloc())),
-    }
-}
-
-fn write_answer(rt: &HostRuntime, answer: &Answer) -> Result<()> {
+    let second = match request.second {
+        Some(path) => fs::read(rt, path).context(path)?,
+        None => Vec::new(alloc),
+    };
+    let answer = tealmuze_program::respond(alloc, &request, file.as_str(), second.as_slice())?;
     for warning in &answer.warnings {
         eprintln!(rt; "tealmuze: warning: {warning}")?;
     }
-    Ok(io::writer(rt).write_all(answer.output.as_slice())?)
+    io::writer(rt).write_all(answer.output.as_slice())?;
+    Ok(answer.status)
 }

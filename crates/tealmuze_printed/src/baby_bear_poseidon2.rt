@@ -10,6 +10,7 @@ use p3_symmetric::Hash;
 use std::alloc::{AllocError, Global};
 
 /// The types that play the protocol.
+#[derive(Clone, Copy, Debug)]
 pub struct Protocol;
 
 impl Suite for Protocol {
@@ -92,10 +93,7 @@ pub fn steps(alloc: Global) -> Result<Vec<Step<Protocol>>, AllocError> {
 }
 
 /// The version and the name of the protocol, the pattern of its steps, and the instance.
-pub fn separator<S: Suite>(
-    alloc: Global,
-    steps: &[Step<S>],
-) -> Result<DomainSeparator<S::Unit, S::Digest>, TranscriptError> {
-    let pattern = script::pattern::<S>(alloc, steps)?;
-    DomainSeparator::new(alloc, 1, "cells".as_bytes(), pattern)
+pub fn separator(alloc: Global, steps: &[Step<Protocol>]) -> Result<Separator, TranscriptError> {
+    let pattern = script::pattern::<Protocol>(alloc, steps)?;
+    Separator::new(alloc, 1, "cells".as_bytes(), pattern)
 }

@@ -14,12 +14,21 @@ mod goldilocks_elements_keccak;
 mod goldilocks_poseidon2;
 
 use anyhow::Result;
+use p3_challenger::fs::DomainSeparator;
 use p3_challenger::fs::script::{Drawn, Step, Suite};
-use p3_challenger::fs::{DomainSeparator, Unit};
 use p3_field::{BasedVectorSpace, PrimeField64};
-use p3_symmetric::DigestHasher;
 use script_lines::playing::prove_steps;
 use std::alloc::Global;
+
+// Tells of the code of a module.
+macro_rules! tell_of {
+    ($rt:expr, $module:ident, $challenger:expr) => {{
+        let steps = $module::steps($rt.alloc())?;
+        let separator = $module::separator($rt.alloc(), &steps)?;
+        let told = tell::<$module::Protocol>($rt.alloc(), $challenger, &separator, &steps)?;
+        println!($rt; "{} {told}", stringify!($module))?;
+    }};
+}
 
 fn main(rt: HostRuntime) -> Result<()> {
     of_bytes(&rt)?;
@@ -28,124 +37,66 @@ fn main(rt: HostRuntime) -> Result<()> {
 }
 
 fn of_bytes(rt: &HostRuntime) -> Result<()> {
-    of_baby_bear_bytes(rt)?;
-    of_baby_bear_bytes_keccak(rt)?;
-    of_goldilocks_bytes(rt)
-}
-
-fn of_elements(rt: &HostRuntime) -> Result<()> {
-    of_baby_bear_elements(rt)?;
-    of_baby_bear_elements_keccak(rt)?;
-    of_goldilocks_elements(rt)?;
-    of_goldilocks_elements_keccak(rt)
-}
-
-fn of_permutations(rt: &HostRuntime) -> Result<()> {
-    of_baby_bear_poseidon2(rt)?;
-    of_goldilocks_poseidon2(rt)?;
-    of_baby_bear_in_goldilocks_poseidon2(rt)
-}
-
-// Tells of the code of a module.
-macro_rules! tell_of {
-    ($rt:expr, $module:ident, $challenger:expr) => {{
-        let challenger = $challenger;
-        let steps = $module::steps($rt.alloc())?;
-        let separator = $module::separator($rt.alloc(), steps.as_slice())?;
-        tell::<$module::Protocol>($rt, stringify!($module), challenger, &separator, &steps)
-    }};
-}
-
-fn of_baby_bear_bytes(rt: &HostRuntime) -> Result<()> {
-    tell_of!(rt, baby_bear_bytes, baby_bear_bytes::challenger(rt.alloc()))
-}
-
-fn of_baby_bear_bytes_keccak(rt: &HostRuntime) -> Result<()> {
+    tell_of!(rt, baby_bear_bytes, baby_bear_bytes::challenger(rt.alloc()));
     tell_of!(
         rt,
         baby_bear_bytes_keccak,
         baby_bear_bytes_keccak::challenger(rt.alloc())
-    )
-}
-
-fn of_goldilocks_bytes(rt: &HostRuntime) -> Result<()> {
+    );
     tell_of!(
         rt,
         goldilocks_bytes,
         goldilocks_bytes::challenger(rt.alloc())
-    )
+    );
+    Ok(())
 }
 
-fn of_baby_bear_elements(rt: &HostRuntime) -> Result<()> {
+fn of_elements(rt: &HostRuntime) -> Result<()> {
     tell_of!(
         rt,
         baby_bear_elements,
         baby_bear_elements::challenger(rt.alloc())
-    )
-}
-
-fn of_baby_bear_elements_keccak(rt: &HostRuntime) -> Result<()> {
+    );
     tell_of!(
         rt,
         baby_bear_elements_keccak,
         baby_bear_elements_keccak::challenger(rt.alloc())
-    )
-}
-
-fn of_goldilocks_elements(rt: &HostRuntime) -> Result<()> {
+    );
     tell_of!(
         rt,
         goldilocks_elements,
         goldilocks_elements::challenger(rt.alloc())
-    )
-}
-
-fn of_goldilocks_elements_keccak(rt: &HostRuntime) -> Result<()> {
+    );
     tell_of!(
         rt,
         goldilocks_elements_keccak,
         goldilocks_elements_keccak::challenger(rt.alloc())
-    )
+    );
+    Ok(())
 }
 
-fn of_baby_bear_poseidon2(rt: &HostRuntime) -> Result<()> {
-    tell_of!(rt, baby_bear_poseidon2, baby_bear_poseidon2::challenger())
+fn of_permutations(rt: &HostRuntime) -> Result<()> {
+    tell_of!(rt, baby_bear_poseidon2, baby_bear_poseidon2::challenger());
+    tell_of!(rt, goldilocks_poseidon2, goldilocks_poseidon2::challenger());
+    let two_fields = baby_bear_in_goldilocks_poseidon2::challenger()?;
+    tell_of!(rt, baby_bear_in_goldilocks_poseidon2, two_fields);
+    Ok(())
 }
 
-fn of_goldilocks_poseidon2(rt: &HostRuntime) -> Result<()> {
-    tell_of!(rt, goldilocks_poseidon2, goldilocks_poseidon2::challenger())
-}
-
-fn of_baby_bear_in_goldilocks_poseidon2(rt: &HostRuntime) -> Result<()> {
-    tell_of!(
-        rt,
-        baby_bear_in_goldilocks_poseidon2,
-        baby_bear_in_goldilocks_poseidon2::challenger()?
-    )
-}
-
-// Prints the name of a module, the digest of the pattern, and the challenges, where no values are sent.
+// The digest of the pattern, and the challenges, where no values are sent.
 fn tell<S: Suite>(
-    rt: &HostRuntime,
-    module: &str,
+    alloc: Global,
     challenger: S::Challenger,
     separator: &DomainSeparator<S::Unit, S::Digest>,
     steps: &[Step<S>],
-) -> Result<()> {
-    let mut told = digest_of(rt.alloc(), separator)?;
-    let sent = Vec::new(rt.alloc());
-    if let Ok(Ok(proved)) = prove_steps::<S>(rt.alloc(), challenger, separator, steps, &sent) {
+) -> Result<String> {
+    let digest = separator.pattern().pattern_hash::<S::Digest>()?;
+    let mut told = hex::encode(alloc, digest)?;
+    let sent = Vec::new(alloc);
+    if let Ok(Ok(proved)) = prove_steps::<S>(alloc, challenger, separator, steps, &sent) {
         write_challenges::<S>(&mut told, &proved.challenges)?;
     }
-    Ok(println!(rt; "{module} {told}")?)
-}
-
-fn digest_of<U: Unit, D: DigestHasher>(
-    alloc: Global,
-    separator: &DomainSeparator<U, D>,
-) -> Result<String> {
-    let digest = separator.pattern().pattern_hash::<D>()?;
-    Ok(hex::encode(alloc, digest)?)
+    Ok(told)
 }
 
 fn write_challenges<S: Suite>(told: &mut String, challenges: &[Drawn<S>]) -> Result<()> {

@@ -1,5 +1,5 @@
 // What the program answers to a command.
-use crate::beginning::{Begun, begin};
+use crate::beginning::begin;
 use crate::explaining::{Explained, explain};
 use crate::explanation::{digits, explanation};
 use crate::protocol::{Name, Protocol, refusal, step_on_line};
@@ -11,7 +11,7 @@ use anyhow::{Context, Error, Result, bail};
 use conformance_tokens::symbol::element;
 use p3_challenger::ChallengerError;
 use p3_challenger::fs::TranscriptError;
-use p3_challenger::fs::script::{Fault, Proved, Sent, Step, Suite, Verified, carried_len};
+use p3_challenger::fs::script::{Fault, Proved, Sent, Step, Verified, carried_len};
 use p3_keccak::Keccak256Hasher;
 use script_lines::playing::{prove_steps, verify_steps};
 use std::alloc::Global;
@@ -21,7 +21,6 @@ use tealmuze_text::answers::{
 use tealmuze_text::code::code;
 use tealmuze_text::command::{Command, Request};
 use tealmuze_text::entry::{Entry, parse_table};
-use tealmuze_text::line::StepOnLine;
 use tealmuze_text::proofs::{copied, proof_of};
 use tealmuze_text::suite_code::SuiteCode;
 use test_suites::{
@@ -157,20 +156,9 @@ fn answer_prove<S: Told>(
     let steps = protocol.steps.as_slice();
     let values = values_of(alloc, steps, second).context(request.second.unwrap_or("values"))?;
     let sent = values.sent.as_slice();
-    match values.missing {
-        Some(step) => answer_begun(alloc, request, protocol, step, sent),
-        None => answer_whole(alloc, request, protocol, sent),
+    if let Some(step) = values.missing {
+        return answer_begun(alloc, request, protocol, step, sent);
     }
-}
-
-// Of values for each step.
-fn answer_whole<S: Told>(
-    alloc: Global,
-    request: &Request<'_>,
-    protocol: &Protocol<'_, S>,
-    sent: &[Sent<S>],
-) -> Result<Answer> {
-    let steps = protocol.steps.as_slice();
     let challenger = S::fresh(alloc)?;
     match prove_steps::<S>(alloc, challenger, &protocol.separator, steps, sent)? {
         Ok(proved) => answer_proved(alloc, request, &proved),
@@ -188,31 +176,20 @@ fn answer_begun<S: Told>(
 ) -> Result<Answer> {
     let steps = protocol.steps.as_slice().get(..step).unwrap_or(&[]);
     let begun = begin::<S>(alloc, &protocol.separator, steps, sent)?;
-    let names = protocol.names.as_slice();
-    match &begun.refused {
-        Some(fault) => answer_unproved(alloc, request, names, fault),
-        None => answer_part::<S>(alloc, request, step_on_line(names, step)?, &begun),
+    if let Some(fault) = &begun.refused {
+        return answer_unproved(alloc, request, protocol.names.as_slice(), fault);
     }
-}
-
-// Of the beginning of a proof, in which this step is the first that is missing.
-fn answer_part<S: Suite>(
-    alloc: Global,
-    request: &Request<'_>,
-    missing: StepOnLine<'_>,
-    begun: &Begun<S>,
-) -> Result<Answer> {
     let shown = BegunShown {
-        missing,
+        missing: step_on_line(protocol.names.as_slice(), step)?,
         bytes: hex::encode(alloc, begun.narg.as_slice())?,
-        witnesses: numbers::<S::Field>(alloc, begun.witnesses.as_slice())?,
+        witnesses: numbers::<S>(alloc, begun.witnesses.as_slice())?,
         challenges: all_drawn::<S>(alloc, begun.challenges.as_slice())?,
     };
     written(alloc, request, &shown, shown.text(alloc)?, 1)
 }
 
 // The values of a file.
-fn values_of<S: Suite>(alloc: Global, steps: &[Step<S>], second: &[u8]) -> Result<Values<S>> {
+fn values_of<S: Told>(alloc: Global, steps: &[Step<S>], second: &[u8]) -> Result<Values<S>> {
     let text = std::str::from_utf8(second).context("expected a text")?;
     let table = parse_table(alloc, text)?;
     let file = Entry::new(&table);
@@ -231,7 +208,7 @@ fn answer_unproved(
     written(alloc, request, &UnprovedShown { refused }, text, 1)
 }
 
-fn answer_proved<S: Suite>(
+fn answer_proved<S: Told>(
     alloc: Global,
     request: &Request<'_>,
     proved: &Proved<S>,
@@ -246,8 +223,8 @@ fn answer_proved<S: Suite>(
     }
     let shown = ProofShown {
         proof: hex::encode(alloc, proof)?,
-        witnesses: numbers::<S::Field>(alloc, proved.witnesses.as_slice())?,
-        carried: numbers::<S::Field>(alloc, proved.carried.as_slice())?,
+        witnesses: numbers::<S>(alloc, proved.witnesses.as_slice())?,
+        carried: numbers::<S>(alloc, proved.carried.as_slice())?,
         challenges: all_drawn::<S>(alloc, proved.challenges.as_slice())?,
     };
     written(alloc, request, &shown, shown.text(alloc)?, 0)
@@ -268,7 +245,7 @@ fn answer_verify<S: Told>(
     written(alloc, request, &shown, shown.text(alloc)?, status)
 }
 
-fn accepted<'a, S: Suite>(alloc: Global, verified: &Verified<'_, S>) -> Result<VerdictShown<'a>> {
+fn accepted<'a, S: Told>(alloc: Global, verified: &Verified<'_, S>) -> Result<VerdictShown<'a>> {
     Ok(VerdictShown {
         accepted: true,
         received: all_received::<S>(alloc, verified.received.as_slice())?,
@@ -307,7 +284,7 @@ fn verdict<'n, S: Told>(
 }
 
 // The witnesses that are carried beside the proof: as many as the steps have.
-fn witnesses<S: Suite>(
+fn witnesses<S: Told>(
     alloc: Global,
     request: &Request<'_>,
     steps: &[Step<S>],

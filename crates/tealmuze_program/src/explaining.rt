@@ -1,5 +1,5 @@
 // What each step of a proof read, fed and drew.
-ghost use Rattle.std.specs.Prelude.{◌≡◌, ◌+◌, ◌<◌, ◌++◌, IfOk, IfSome, OnOk, None, [], flat_map, length};
+ghost use Rattle.std.specs.Prelude.{◌≡◌, ◌+◌, ◌++◌, IfOk, IfSome, OnOk, None, [], flat_map, length};
 
 use crate::fault::fault_byte;
 use crate::shown::{drawn, known, received};
@@ -100,52 +100,26 @@ fn play<'n, S: Told>(
     explained.seed = waiting::<S>(alloc, verifier.challenger_mut(), 0)?;
     let mut carried = carried.iter();
     for position in 0..steps.len() {
-        let witness = match &steps[position] {
+        let step = &steps[position];
+        let witness = match step {
             Step::ObservePow { .. } => carried.next().copied(),
             _ => None,
         };
-        play_at::<S>(alloc, verifier, steps, position, witness, proof, explained)?;
-        // (by `match`: with `is_some` the loop's invariant is not found)
-        match explained.refused {
-            Some(_) => break,
-            None => {}
-        }
-    }
-    Ok(())
-}
-
-// Plays the step at a position, with the witness that the caller carries to it, and keeps what it did, or why it is
-// refused.
-fn play_at<'n, S: Told>(
-    alloc: Global,
-    verifier: &mut VerifierOf<'n, S>,
-    steps: &[Step<S>],
-    position: usize,
-    witness: Option<S::Field>,
-    proof: &'n [u8],
-    explained: &mut Explained<'n>,
-) -> Result<()>
-    requires at { position < length steps.now }
-    requires fresh { (length explained.old.rows.items ≡ position) × (explained.old.refused ≡ None) }
-    ensures read { flat_map (λ row. row.read.now) explained.new.rows.items ++ explained.new.unread.now
-        ≡ flat_map (λ row. row.read.now) explained.old.rows.items ++ explained.old.unread.now }
-    ensures played { OnOk result
-        (explained.new.refused ≡ None → length explained.new.rows.items ≡ position + 1) }
-    ensures stopped { OnOk result
-        (IfSome explained.new.refused (λ refused. refused.0.position ≡ length explained.new.rows.items)) }
-{
-    let step = &steps[position];
-    let pending = pending_len::<S>(verifier.challenger_mut());
-    let offset = proof.len().saturating_sub(explained.unread.len());
-    match play_step(alloc, verifier, &steps[position..=position], witness)? {
-        Ok(answer) => {
-            let challenger = verifier.challenger_mut();
-            let effect = effect_of::<S>(alloc, challenger, step, witness, &answer, pending)?;
-            explained.keep(offset, effect, verifier.remaining_narg())?;
-        }
-        Err(error) => {
-            let byte = fault_byte(step, &error, proof, offset);
-            explained.refused = Some((Fault { position, error }, byte));
+        let pending = pending_len::<S>(verifier.challenger_mut());
+        let offset = proof.len().saturating_sub(explained.unread.len());
+        match play_step(alloc, verifier, &steps[position..=position], witness)? {
+            Ok(answer) => {
+                let challenger = verifier.challenger_mut();
+                let fed = fed::<S>(alloc, challenger, step, witness, &answer, pending)?;
+                let left = verifier.remaining_narg();
+                let value = value_of::<S>(alloc, step, &answer, witness)?;
+                explained.keep::<S>(alloc, answer, value, fed, offset, left)?;
+            }
+            Err(error) => {
+                let byte = fault_byte(step, &error, proof, offset);
+                explained.refused = Some((Fault { position, error }, byte));
+                break;
+            }
         }
     }
     Ok(())
@@ -166,14 +140,25 @@ impl<'n> Explained<'n> {
         }
     }
 
-    // Keeps what a step did, which began to read at `offset` and left so many bytes.
-    fn keep(&mut self, offset: usize, effect: Effect, left: usize) -> Result<()>
+    // Keeps what a step answered, which began to read at `offset` and left so many bytes.
+    fn keep<S: Told>(
+        &mut self,
+        alloc: Global,
+        answer: Answer<'n, S>,
+        value: Option<Shown>,
+        fed: Option<Vec<u8>>,
+        offset: usize,
+        left: usize,
+    ) -> Result<()>
         ensures read { flat_map (λ row. row.read.now) self.new.rows.items ++ self.new.unread.now
             ≡ flat_map (λ row. row.read.now) self.old.rows.items ++ self.old.unread.now }
         ensures one { OnOk result (length self.new.rows.items ≡ length self.old.rows.items + 1) }
         ensures rest { self.new.refused ≡ self.old.refused }
     {
-        let Effect { value, fed, drawn } = effect;
+        let drawn = match &answer.1 {
+            Some(values) => Some(drawn::<S>(alloc, values)?),
+            None => None,
+        };
         let (read, unread) = self.unread.split_at(self.unread.len().saturating_sub(left));
         self.rows.push(Row {
             offset,
@@ -187,44 +172,8 @@ impl<'n> Explained<'n> {
     }
 }
 
-// What a step did beside what it read.
-#[derive(Drop)]
-struct Effect {
-    // the value that it received, or that both sides know
-    value: Option<Shown>,
-    // the bytes that it fed the challenger, where that keeps them
-    fed: Option<Vec<u8>>,
-    // what it drew
-    drawn: Option<Shown>,
-}
-
-// What a step did that answered so, with the witness that the caller carried to it, where so many bytes were pending
-// before.
-fn effect_of<S: Told>(
-    alloc: Global,
-    challenger: &S::Challenger,
-    step: &Step<S>,
-    witness: Option<S::Field>,
-    answer: &Answer<'_, S>,
-    pending: usize,
-) -> Result<Effect> {
-    Ok(Effect {
-        fed: fed::<S>(alloc, challenger, step, witness, answer, pending)?,
-        value: value_of::<S>(alloc, step, answer, witness)?,
-        drawn: drawn_of::<S>(alloc, answer)?,
-    })
-}
-
-// What a step drew.
-fn drawn_of<S: Suite>(alloc: Global, answer: &Answer<'_, S>) -> Result<Option<Shown>> {
-    match &answer.1 {
-        Some(values) => Ok(Some(drawn::<S>(alloc, values)?)),
-        None => Ok(None),
-    }
-}
-
 // The value of a step: what it received, the witness that the caller carried to it, or what both sides know.
-fn value_of<S: Suite>(
+fn value_of<S: Told>(
     alloc: Global,
     step: &Step<S>,
     answer: &Answer<'_, S>,
@@ -269,7 +218,7 @@ fn fed<S: Told>(
 }
 
 // The witness that a step checks. Without bits nothing is checked, and nothing observed.
-fn checked_witness<S: Suite>(
+fn checked_witness<S: Told>(
     step: &Step<S>,
     carried: Option<S::Field>,
     answer: &Answer<'_, S>,

@@ -6,7 +6,7 @@ use std::alloc::Global;
 use tealmuze_text::shown::Shown;
 
 /// The canonical numbers of scalars.
-pub fn numbers<F: PrimeField64>(alloc: Global, scalars: &[F]) -> Result<Vec<u64>> {
+pub fn numbers<S: Suite>(alloc: Global, scalars: &[S::Field]) -> Result<Vec<u64>> {
     let mut numbers = Vec::new(alloc);
     for scalar in scalars {
         numbers.push(scalar.as_canonical_u64())?;
@@ -14,13 +14,10 @@ pub fn numbers<F: PrimeField64>(alloc: Global, scalars: &[F]) -> Result<Vec<u64>
     Ok(numbers)
 }
 
-fn elements<F: PrimeField64, E: BasedVectorSpace<F>>(
-    alloc: Global,
-    extensions: &[E],
-) -> Result<Vec<Vec<u64>>> {
+fn elements<S: Suite>(alloc: Global, extensions: &[S::Extension]) -> Result<Vec<Vec<u64>>> {
     let mut elements = Vec::new(alloc);
     for extension in extensions {
-        elements.push(numbers::<F>(alloc, extension.as_basis_coefficients_slice())?)?;
+        elements.push(numbers::<S>(alloc, extension.as_basis_coefficients_slice())?)?;
     }
     Ok(elements)
 }
@@ -32,13 +29,10 @@ pub fn received<S: Suite>(alloc: Global, value: &Received<'_, S>) -> Result<Show
         Received::Scalar(scalar) | Received::Witness(scalar) => {
             Ok(Shown::Number(scalar.as_canonical_u64()))
         }
-        Received::Scalars(scalars) => Ok(Shown::Numbers(numbers::<S::Field>(
-            alloc,
-            scalars.as_slice(),
-        )?)),
+        Received::Scalars(scalars) => Ok(Shown::Numbers(numbers::<S>(alloc, scalars.as_slice())?)),
         Received::Extension(element) => {
             let coefficients = element.as_basis_coefficients_slice();
-            Ok(Shown::Numbers(numbers::<S::Field>(alloc, coefficients)?))
+            Ok(Shown::Numbers(numbers::<S>(alloc, coefficients)?))
         }
     }
 }
@@ -48,14 +42,14 @@ pub fn known<S: Suite>(alloc: Global, step: &Step<S>) -> Result<Option<Shown>> {
     match step {
         Step::PublicScalar { value, .. } => Ok(Some(Shown::Number(value.as_canonical_u64()))),
         Step::PublicScalars { values, .. } | Step::PublicScalarsBounded { values, .. } => {
-            Ok(Some(Shown::Numbers(numbers::<S::Field>(alloc, values.as_slice())?)))
+            Ok(Some(Shown::Numbers(numbers::<S>(alloc, values.as_slice())?)))
         }
         Step::ObserveExtension { value, .. } => {
             let coefficients = value.as_basis_coefficients_slice();
-            Ok(Some(Shown::Numbers(numbers::<S::Field>(alloc, coefficients)?)))
+            Ok(Some(Shown::Numbers(numbers::<S>(alloc, coefficients)?)))
         }
         Step::ObserveExtensions { values, .. } | Step::ObserveExtensionsBounded { values, .. } => {
-            Ok(Some(Shown::Elements(elements::<S::Field, S::Extension>(alloc, values.as_slice())?)))
+            Ok(Some(Shown::Elements(elements::<S>(alloc, values.as_slice())?)))
         }
         _ => Ok(None),
     }
@@ -64,12 +58,9 @@ pub fn known<S: Suite>(alloc: Global, step: &Step<S>) -> Result<Option<Shown>> {
 /// Shows what was drawn.
 pub fn drawn<S: Suite>(alloc: Global, drawn: &Drawn<S>) -> Result<Shown> {
     match drawn {
-        Drawn::Scalars(scalars) => Ok(Shown::Numbers(numbers::<S::Field>(
-            alloc,
-            scalars.as_slice(),
-        )?)),
+        Drawn::Scalars(scalars) => Ok(Shown::Numbers(numbers::<S>(alloc, scalars.as_slice())?)),
         Drawn::Extensions(extensions) => {
-            Ok(Shown::Elements(elements::<S::Field, S::Extension>(alloc, extensions.as_slice())?))
+            Ok(Shown::Elements(elements::<S>(alloc, extensions.as_slice())?))
         }
         Drawn::Bits(bits) => {
             let mut numbers = Vec::new(alloc);

@@ -83,11 +83,11 @@ fn step_of_value<S: World>(
 ) -> Result<Step<S>> {
     match name {
         "public_scalar" => {
-            let value = scalar::<S::Field>(value)?;
+            let value = scalar::<S>(value)?;
             Ok(Step::PublicScalar { label, value })
         }
         "observe_extension" => {
-            let value = extension::<S::Field, S::Extension>(alloc, value)?;
+            let value = extension::<S>(alloc, value)?;
             Ok(Step::ObserveExtension { label, value })
         }
         _ => {
@@ -106,7 +106,7 @@ fn parse_public<S: World>(
     name: &str,
     label: Label,
 ) -> Result<Step<S>> {
-    let values = scalars::<S::Field>(alloc, entry.list("values")?).context("values")?;
+    let values = scalars::<S>(alloc, entry.list("values")?).context("values")?;
     if name == "public_scalars" {
         return Ok(Step::PublicScalars { label, values });
     }
@@ -121,9 +121,7 @@ fn parse_observed<S: World>(
     name: &str,
     label: Label,
 ) -> Result<Step<S>> {
-    let values = extensions::<S::Field, S::Extension>(alloc, entry.list("values")?).context(
-        "values",
-    )?;
+    let values = extensions::<S>(alloc, entry.list("values")?).context("values")?;
     if name == "observe_extensions" {
         return Ok(Step::ObserveExtensions { label, values });
     }

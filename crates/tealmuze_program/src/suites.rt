@@ -1,4 +1,5 @@
 // The suites that a file can name, and what is told of their challengers.
+use anyhow::Result;
 use p3_challenger::fs::BytesToFieldCodec;
 use p3_challenger::fs::script::{AcceptAll, Plain, Suite};
 use p3_challenger::{
@@ -7,6 +8,8 @@ use p3_challenger::{
 use p3_field::{FieldBridge, Goldilocks, PrimeField32, PrimeField64};
 use p3_symmetric::{CryptographicHasher, Sha256Hasher};
 use script_lines::world::World;
+use std::alloc::Global;
+use test_suites::HashSuite;
 
 /// A challenger that tells what it keeps of what it was fed.
 pub trait Keeps {
@@ -91,4 +94,18 @@ impl Suite for GoldilocksBytes {
     ghost alphabet = { tt };
 
     ghost clones = { λ values copy told. each_same values copy told.whole };
+}
+
+impl World for GoldilocksBytes {
+    fn fresh(alloc: Global) -> Result<HashChallenger<u8, Sha256Hasher, 32>> {
+        <HashSuite<Sha256Hasher>>::fresh(alloc)
+    }
+
+    fn opaque(alloc: Global, tokens: &str) -> Result<[u8; 32]> {
+        <HashSuite<Sha256Hasher>>::opaque(alloc, tokens)
+    }
+
+    fn rule(token: &str) -> Result<AcceptAll> {
+        <HashSuite<Sha256Hasher>>::rule(token)
+    }
 }

@@ -24,58 +24,41 @@ pub fn parse_values<S: Suite>(
     list: &[Value],
 ) -> Result<Values<S>> {
     let mut sent = Vec::new(alloc);
+    let mut values = list.iter();
     for (place, step) in steps.iter().enumerate() {
         if matches!(standing_of(step), Standing::Sent) {
-            let Some(value) = list.get(sent.len()) else {
+            let number = sent.len();
+            let Some(value) = values.next() else {
                 return Ok(Values {
                     sent,
                     missing: Some(place),
                 });
             };
-            add_value(alloc, &mut sent, place, step, value)?;
+            let value = parse_value(alloc, step, value).context(format_args!(
+                "values[{number}], of step {place}"
+            ))?;
+            sent.push(value)?;
         }
     }
-    check_last(list.len(), sent.len())?;
+    if values.next().is_some() {
+        let number = sent.len();
+        bail!("values[{number}]: no step is left that sends it");
+    }
     Ok(Values {
         sent,
         missing: None,
     })
 }
 
-// Adds the value of the step at a place.
-fn add_value<S: Suite>(
-    alloc: Global,
-    sent: &mut Vec<Sent<S>>,
-    place: usize,
-    step: &Step<S>,
-    value: &Value,
-) -> Result<()> {
-    let number = sent.len();
-    let value = parse_value(alloc, step, value).context(format_args!(
-        "values[{number}], of step {place}"
-    ))?;
-    Ok(sent.push(value)?)
-}
-
-// Refuses more values than the steps are sent.
-fn check_last(values: usize, sent: usize) -> Result<()> {
-    if values > sent {
-        bail!("values[{sent}]: no step is left that sends it");
-    }
-    Ok(())
-}
-
 fn parse_value<S: Suite>(alloc: Global, step: &Step<S>, value: &Value) -> Result<Sent<S>> {
     match step {
-        Step::Scalar { .. } => Ok(Sent::Scalar(scalar::<S::Field>(value)?)),
+        Step::Scalar { .. } => Ok(Sent::Scalar(scalar::<S>(value)?)),
         Step::Scalars { .. } | Step::ScalarsBounded { .. } => {
-            let values = scalars::<S::Field>(alloc, items(value)?)?;
+            let values = scalars::<S>(alloc, items(value)?)?;
             check_len(step, values.len())?;
             Ok(Sent::Scalars(values))
         }
-        Step::Extension { .. } => Ok(Sent::Extension(extension::<S::Field, S::Extension>(
-            alloc, value,
-        )?)),
+        Step::Extension { .. } => Ok(Sent::Extension(extension::<S>(alloc, value)?)),
         _ => {
             let values = bytes(alloc, value)?;
             check_len(step, values.len())?;

@@ -26,22 +26,16 @@ pub fn written<T: ToJson>(
     text: String,
     status: u8,
 ) -> Result<Answer> {
-    let output = if request.json {
-        json_line(alloc, shown)?
-    } else {
-        text
-    };
+    let mut output = text;
+    if request.json {
+        output = shown.json(alloc)?;
+        output.push('\n')?;
+    }
     Ok(Answer {
         output: output.into_bytes(),
         status,
         warnings: Vec::new(alloc),
     })
-}
-
-fn json_line<T: ToJson>(alloc: Global, shown: &T) -> Result<String> {
-    let mut line = shown.json(alloc)?;
-    line.push('\n')?;
-    Ok(line)
 }
 
 /// A pattern, its digest, and what the separator feeds.
@@ -103,9 +97,8 @@ pub struct ProofShown {
 impl ProofShown {
     /// The proof as text.
     pub fn text(&self, alloc: Global) -> Result<String> {
-        let mut text = String::from_str(alloc, &self.proof)?;
-        text.push('\n')?;
-        Ok(text)
+        let proof = &self.proof;
+        Ok(format!(in alloc; "{proof}\n")?)
     }
 }
 

@@ -4,7 +4,7 @@ use crate::imports::Imports;
 use crate::line::OneLine;
 use crate::numbers::bytes;
 use crate::step_code::StepWriter;
-use crate::suite_code::{Ghosts, SuiteCode};
+use crate::suite_code::SuiteCode;
 use anyhow::Result;
 use std::alloc::{AllocError, Global};
 use toml::Value;
@@ -34,6 +34,7 @@ fn body(alloc: Global, suite: SuiteCode, file: Entry<'_>) -> Result<String> {
 
 const HEAD: &str = "
 /// The types that play the protocol.
+#[derive(Clone, Copy, Debug)]
 pub struct Protocol;
 
 impl Suite for Protocol {
@@ -41,15 +42,13 @@ impl Suite for Protocol {
 
 fn write_suite(text: &mut String, suite: SuiteCode) -> Result<(), AllocError> {
     let ghosts = suite.ghosts();
-    text.push_str(HEAD)?;
-    writeln!(text, "{}", ghosts.uses)?;
+    write!(text, "{HEAD}{}\n", ghosts.uses)?;
     write_members(text, suite)?;
-    write_ghosts(text, ghosts)
-}
-
-fn write_ghosts(text: &mut String, ghosts: Ghosts) -> Result<(), AllocError> {
-    let Ghosts { own, others, .. } = ghosts;
-    write!(text, "    ghost is_own = {{ λ {own} }};\n\n{others}")
+    write!(
+        text,
+        "    ghost is_own = {{ λ {} }};\n\n{}",
+        ghosts.own, ghosts.others
+    )
 }
 
 fn write_members(text: &mut String, suite: SuiteCode) -> Result<(), AllocError> {
@@ -65,13 +64,9 @@ fn write_members(text: &mut String, suite: SuiteCode) -> Result<(), AllocError> 
         ("Group", suite.group()),
     ];
     for (name, value) in &members {
-        write_member(text, name, value)?;
+        writeln!(text, "    type {name} = {value};\n")?;
     }
     Ok(())
-}
-
-fn write_member(text: &mut String, name: &str, value: &str) -> Result<(), AllocError> {
-    writeln!(text, "    type {name} = {value};\n")
 }
 
 // The types of the challenger and of separators, and what both sides begin with.
@@ -97,26 +92,24 @@ pub type Separator = DomainSeparator<{alphabet}, {digest}>;
 
 const SEPARATOR: &str =
     "/// The version and the name of the protocol, the pattern of its steps, and the instance.
-pub fn separator<S: Suite>(
-    alloc: Global,
-    steps: &[Step<S>],
-) -> Result<DomainSeparator<S::Unit, S::Digest>, TranscriptError> {
-    let pattern = script::pattern::<S>(alloc, steps)?;
+pub fn separator(alloc: Global, steps: &[Step<Protocol>]) -> Result<Separator, TranscriptError> {
+    let pattern = script::pattern::<Protocol>(alloc, steps)?;
 ";
 
 fn write_separator(alloc: Global, text: &mut String, file: Entry<'_>) -> Result<()> {
-    let new = new_separator(alloc, file)?;
+    let (version, name) = (file.number("version")?, file.text("name")?);
     let chunks = file.list_or_none("instance")?;
     if chunks.is_empty() {
-        return Ok(write!(text, "{SEPARATOR}    {new}\n}}\n")?);
+        return Ok(write!(
+            text,
+            "{SEPARATOR}    Separator::new(alloc, {version}, {name:?}.as_bytes(), pattern)\n}}\n"
+        )?);
     }
-    writeln!(text, "{SEPARATOR}    let mut separator = {new}?;")?;
+    writeln!(
+        text,
+        "{SEPARATOR}    let mut separator = Separator::new(alloc, {version}, {name:?}.as_bytes(), pattern)?;"
+    )?;
     write_instance(alloc, text, chunks)
-}
-
-fn new_separator(alloc: Global, file: Entry<'_>) -> Result<String> {
-    let (version, name) = (file.number("version")?, file.text("name")?);
-    Ok(format!(in alloc; "DomainSeparator::new(alloc, {version}, {name:?}.as_bytes(), pattern)")?)
 }
 
 fn write_instance(alloc: Global, text: &mut String, chunks: &[Value]) -> Result<()> {

@@ -1,6 +1,5 @@
 // What the command line asks for.
 use anyhow::{Context, Result};
-use clap::parser::ValuesRef;
 use clap::{Arg, ArgAction, ArgMatches, Error};
 use std::alloc::{AllocError, Global};
 
@@ -143,18 +142,13 @@ const COMMANDS: [Usage; 5] = [
 ];
 
 fn grammar<'a>(alloc: Global) -> Result<clap::Command<'a>, AllocError> {
-    let commands = all_built(alloc, &COMMANDS)?;
+    let mut commands = Vec::new(alloc);
+    for usage in &COMMANDS {
+        commands.push(built(alloc, usage)?)?;
+    }
     built(alloc, &PROGRAM)?
         .subcommand_required(true)
         .subcommands(commands)
-}
-
-fn all_built<'a>(alloc: Global, usages: &[Usage]) -> Result<Vec<clap::Command<'a>>, AllocError> {
-    let mut commands = Vec::new(alloc);
-    for usage in usages {
-        commands.push(built(alloc, usage)?)?;
-    }
-    Ok(commands)
 }
 
 fn built<'a>(alloc: Global, usage: &Usage) -> Result<clap::Command<'a>, AllocError> {
@@ -189,11 +183,17 @@ fn argument<'a>(alloc: Global, word: &Word) -> Arg<'a> {
 /// What a command line asks for that was read.
 pub fn request_of<'a>(alloc: Global, matches: &ArgMatches<'a>) -> Result<Request<'a>> {
     let (name, matches) = matches.subcommand().context("no command")?;
-    let command = command_of(name);
+    let (command, second) = match name {
+        "pattern" => (Command::Pattern, None),
+        "prove" => (Command::Prove, matches.get_str("VALUES")),
+        "verify" => (Command::Verify, matches.get_str("PROOF")),
+        "rust" => (Command::Rust, None),
+        _ => (Command::Explain, matches.get_str("PROOF")),
+    };
     Ok(Request {
         command,
         file: matches.get_str("FILE").context("no file")?,
-        second: second_of(command, matches),
+        second,
         json: matches.get_flag("json"),
         hex: matches.get_flag("hex"),
         whole: matches.get_flag("whole"),
@@ -201,37 +201,13 @@ pub fn request_of<'a>(alloc: Global, matches: &ArgMatches<'a>) -> Result<Request
     })
 }
 
-fn command_of(name: &str) -> Command {
-    match name {
-        "pattern" => Command::Pattern,
-        "prove" => Command::Prove,
-        "verify" => Command::Verify,
-        "rust" => Command::Rust,
-        _ => Command::Explain,
-    }
-}
-
-// The path of the second file, if the command has one.
-fn second_of<'a>(command: Command, matches: &ArgMatches<'a>) -> Option<&'a str> {
-    match command {
-        Command::Prove => matches.get_str("VALUES"),
-        Command::Verify | Command::Explain => matches.get_str("PROOF"),
-        Command::Pattern | Command::Rust => None,
-    }
-}
-
 // The witnesses that are carried beside the proof.
 fn carried(alloc: Global, matches: &ArgMatches<'_>) -> Result<Vec<u64>> {
-    match matches.get_many::<u64>("carried") {
-        Some(numbers) => listed(alloc, numbers),
-        None => Ok(Vec::new(alloc)),
+    let mut carried = Vec::new(alloc);
+    if let Some(numbers) = matches.get_many::<u64>("carried") {
+        for number in numbers {
+            carried.push(number?)?;
+        }
     }
-}
-
-fn listed(alloc: Global, numbers: ValuesRef<'_, '_, u64>) -> Result<Vec<u64>> {
-    let mut list = Vec::new(alloc);
-    for number in numbers {
-        list.push(number?)?;
-    }
-    Ok(list)
+    Ok(carried)
 }

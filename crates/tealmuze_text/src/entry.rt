@@ -24,11 +24,6 @@ fn refuse(told: &str) -> Result<Table> {
     }
 }
 
-// What was looked for at the key, and what is said where it is not there.
-fn found<T>(value: Option<T>, absent: &'static str, key: &'static str) -> Result<T> {
-    value.context(absent).context(key)
-}
-
 /// A table of a file.
 #[derive(Clone, Copy)]
 pub struct Entry<'a> {
@@ -55,12 +50,15 @@ impl<'a> Entry<'a> {
 
     /// What stands at the key.
     pub fn value(&self, key: &'static str) -> Result<&'a Value> {
-        found(self.table.get(key), "missing", key)
+        self.table.get(key).context("missing").context(key)
     }
 
     /// The text at the key.
     pub fn text(&self, key: &'static str) -> Result<&'a str> {
-        found(self.value(key)?.as_str(), "expected a text", key)
+        self.value(key)?
+            .as_str()
+            .context("expected a text")
+            .context(key)
     }
 
     /// The number at the key.
@@ -70,11 +68,9 @@ impl<'a> Entry<'a> {
 
     /// The count at the key.
     pub fn count(&self, key: &'static str) -> Result<usize> {
-        found(
-            usize::try_from(self.number(key)?).ok(),
-            "expected a count",
-            key,
-        )
+        usize::try_from(self.number(key)?)
+            .context("expected a count")
+            .context(key)
     }
 
     /// How many values a step draws.

@@ -107,9 +107,9 @@ impl ExplainedShown<'_> {
 
     fn table(&self, alloc: Global, whole: bool) -> Result<String> {
         let mut lines = Vec::new(alloc);
-        add_line(alloc, &mut lines, HEAD, whole)?;
+        lines.push(line_of(alloc, HEAD, whole)?)?;
         for row in &self.steps {
-            add_line(alloc, &mut lines, row.cells(), whole)?;
+            lines.push(line_of(alloc, row.cells(), whole)?)?;
         }
         layout(alloc, lines.as_slice())
     }
@@ -146,15 +146,6 @@ impl fmt::Display for Cell<'_> {
 
 // How many bytes of a cell are shown at most.
 const CELL_BYTES: usize = 40;
-
-fn add_line(
-    alloc: Global,
-    lines: &mut Vec<Line>,
-    cells: [Cell<'_>; COLUMNS],
-    whole: bool,
-) -> Result<()> {
-    Ok(lines.push(line_of(alloc, cells, whole)?)?)
-}
 
 fn line_of(alloc: Global, cells: [Cell<'_>; COLUMNS], whole: bool) -> Result<Line> {
     let line = cells.try_map(|cell| {

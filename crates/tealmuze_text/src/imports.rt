@@ -92,19 +92,11 @@ pub struct Imports<'a> {
 
 impl fmt::Display for Imports<'_> {
     fn fmt<W: fmt::Write>(&self, f: &mut fmt::Formatter<W>) -> fmt::Result {
-        write_groups(f, self.code, &GROUPS)
+        for group in &GROUPS {
+            write_group(f, self.code, group)?;
+        }
+        Ok(())
     }
-}
-
-fn write_groups<W: fmt::Write>(
-    f: &mut fmt::Formatter<W>,
-    code: &str,
-    groups: &[Group],
-) -> fmt::Result {
-    for group in groups {
-        write_group(f, code, group)?;
-    }
-    Ok(())
 }
 
 fn write_group<W: fmt::Write>(f: &mut fmt::Formatter<W>, code: &str, group: &Group) -> fmt::Result {
@@ -135,8 +127,8 @@ impl fmt::Display for Used<'_> {
         let mut has_begun = false;
         for (name, mark) in self.names {
             if self.code.contains(*mark) {
-                f.write_str(if has_begun { ", " } else { "" })?;
-                f.write_str(name)?;
+                let before = if has_begun { ", " } else { "" };
+                write!(f, "{before}{name}")?;
                 has_begun = true;
             }
         }

@@ -70,8 +70,9 @@ pub fn optional<T: ToJson>(alloc: Global, value: &Option<T>) -> Result<String> {
 pub fn list<T: ToJson>(alloc: Global, values: &[T]) -> Result<String> {
     let mut text = String::new(alloc);
     for value in values {
-        text.push_str(if text.is_empty() { "" } else { ", " })?;
-        text.push_str(&value.json(alloc)?)?;
+        let before = if text.is_empty() { "" } else { ", " };
+        let value = value.json(alloc)?;
+        write!(text, "{before}{value}")?;
     }
     Ok(format!(in alloc; "[{text}]")?)
 }

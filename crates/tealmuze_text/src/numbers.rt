@@ -7,22 +7,14 @@ use toml::Value;
 /// The number of a value: an integer that is not negative, or a text of decimal digits, in which a number stands that
 /// TOML has no integer for.
 pub fn number(value: &Value) -> Result<u64> {
-    match (value.as_str(), value.as_integer()) {
-        (Some(text), _) => decimal(text),
-        (None, Some(number)) => not_negative(number),
-        (None, None) => bail!("expected a number"),
+    if let Some(text) = value.as_str() {
+        check_decimal(text)?;
+        return text.parse().context("expected a number");
     }
-}
-
-fn decimal(text: &str) -> Result<u64> {
-    check_decimal(text)?;
-    text.parse().context("expected a number")
-}
-
-fn not_negative(number: i64) -> Result<u64> {
-    match u64::try_from(number) {
-        Ok(number) => Ok(number),
-        Err(_) => bail!("expected a number that is not below 0"),
+    match value.as_integer().map(u64::try_from) {
+        Some(Ok(number)) => Ok(number),
+        Some(Err(_)) => bail!("expected a number that is not below 0"),
+        None => bail!("expected a number"),
     }
 }
 

@@ -59,30 +59,18 @@ fn add_once_or_more<'a>(steps: &mut Vec<Listed<'a>>, place: Place, value: &'a Va
 // Adds the steps of a table that says how many times they stand.
 fn add_repeated<'a>(steps: &mut Vec<Listed<'a>>, at: usize, entry: Entry<'a>) -> Result<()> {
     entry.only(&[REPEAT, "steps"])?;
-    let times = times_of(entry)?;
-    let list = list_of(entry)?;
-    for _ in 0..times {
-        add_all(steps, at, list)?;
-    }
-    Ok(())
-}
-
-// How many times the steps of a table stand.
-fn times_of(entry: Entry<'_>) -> Result<usize> {
     let times = entry.count(REPEAT)?;
     if times == 0 || times > MOST_STEPS {
         bail!("repeat: expected a number from 1 to {MOST_STEPS}");
     }
-    Ok(times)
-}
-
-// The steps that are repeated: there is one at least.
-fn list_of<'a>(entry: Entry<'a>) -> Result<&'a [Value]> {
     let list = entry.list("steps")?;
     if list.is_empty() {
         bail!("steps: expected a step");
     }
-    Ok(list)
+    for _ in 0..times {
+        add_all(steps, at, list)?;
+    }
+    Ok(())
 }
 
 // Adds the steps of a list that is repeated.

@@ -23,24 +23,6 @@ struct Place {
     close: &'static str,
 }
 
-impl Place {
-    fn write_opening(&self, text: &mut String, name: Camel<'_>) -> Result<()> {
-        let Place { space, open, .. } = self;
-        Ok(write!(text, "{space}{open}Step::{name} {{")?)
-    }
-
-    // Writes the label of a step that has nothing else, and its end.
-    fn write_label(&self, text: &mut String, label: &str) -> Result<()> {
-        let close = self.close;
-        Ok(write!(text, " label: {label:?} }}{close}")?)
-    }
-
-    fn write_closing(&self, text: &mut String) -> Result<()> {
-        let Place { space, close, .. } = self;
-        Ok(write!(text, "\n{space}}}{close}")?)
-    }
-}
-
 const LISTED: Place = Place {
     space: "        ",
     open: "",
@@ -114,13 +96,15 @@ impl StepWriter {
     fn write_step(&self, text: &mut String, entry: Entry<'_>, place: &Place) -> Result<()> {
         let name = entry.text("type")?;
         let keys = keys_of(name)?;
-        place.write_opening(text, Camel { name })?;
+        let Place { space, open, close } = place;
+        write!(text, "{space}{open}Step::{} {{", Camel { name })?;
         if keys.len() == 2 && self.has_short_label(entry)? {
-            place.write_label(text, entry.text("label")?)
+            write!(text, " label: {:?} }}{close}", entry.text("label")?)?;
         } else {
-            self.write_fields(text, entry, keys, place.space)?;
-            place.write_closing(text)
+            self.write_fields(text, entry, keys, space)?;
+            write!(text, "\n{space}}}{close}")?;
         }
+        Ok(())
     }
 
     fn has_short_label(&self, entry: Entry<'_>) -> Result<bool> {
@@ -139,24 +123,27 @@ impl StepWriter {
         for key in keys.iter().skip(1) {
             write!(text, "\n{space}    {key}: ")?;
             self.write_field(text, entry, *key)?;
+            text.push_str(",")?;
         }
         Ok(())
     }
 
-    // Writes what a step has at a key, and a comma.
+    // Writes what a step has at a key.
     fn write_field(&self, text: &mut String, entry: Entry<'_>, key: &'static str) -> Result<()> {
-        self.write_value(text, entry, key)?;
-        Ok(text.push_str(",")?)
-    }
-
-    fn write_value(&self, text: &mut String, entry: Entry<'_>, key: &'static str) -> Result<()> {
         match key {
-            "label" => write_quoted(text, entry.text(key)?),
-            "kind" => write_kind(text, entry.text(key)?),
-            "value" => self.write_element(text, entry, entry.value(key)?),
-            "values" => self.write_elements(text, entry, entry.list(key)?),
-            _ => write_number(text, entry.number(key)?),
+            "label" => write!(text, "{:?}", entry.text(key)?)?,
+            "kind" => write!(
+                text,
+                "Kind::{}",
+                Camel {
+                    name: entry.text(key)?
+                }
+            )?,
+            "value" => self.write_element(text, entry, entry.value(key)?)?,
+            "values" => self.write_elements(text, entry, entry.list(key)?)?,
+            _ => write!(text, "{}", entry.number(key)?)?,
         }
+        Ok(())
     }
 
     // Writes the values of a step that has a list of them.
@@ -219,35 +206,11 @@ impl StepWriter {
         let (open, close) = self.suite.around_numbers();
         text.push_str("Hash::from([")?;
         for (at, number) in numbers.split_whitespace().enumerate() {
-            text.push_str(comma(at))?;
-            write_around(text, open, number, close)?;
+            let before = comma(at);
+            write!(text, "{before}{open}{number}{close}")?;
         }
         text.push_str("])")
     }
-}
-
-fn write_quoted(text: &mut String, label: &str) -> Result<()> {
-    Ok(write!(text, "{label:?}")?)
-}
-
-fn write_kind(text: &mut String, name: &str) -> Result<()> {
-    Ok(write!(text, "Kind::{}", Camel { name })?)
-}
-
-fn write_number(text: &mut String, number: u64) -> Result<()> {
-    Ok(write!(text, "{number}")?)
-}
-
-// Writes a number, with this code around it.
-fn write_around(
-    text: &mut String,
-    open: &str,
-    number: &str,
-    close: &str,
-) -> Result<(), AllocError> {
-    text.push_str(open)?;
-    text.push_str(number)?;
-    text.push_str(close)
 }
 
 // What stands before an element of a list.

@@ -10,24 +10,18 @@ pub type Line = [String; COLUMNS];
 
 /// The lines, one below the other, without spaces at their ends.
 pub fn layout(alloc: Global, lines: &[Line]) -> Result<String> {
-    let widths = widths_of(lines);
-    let mut table = String::new(alloc);
-    for line in lines {
-        let text = padded(alloc, line, &widths)?;
-        writeln!(table, "{}", text.trim_end())?;
-    }
-    Ok(table)
-}
-
-// How wide the widest text of each column is.
-fn widths_of(lines: &[Line]) -> [usize; COLUMNS] {
     let mut widths = [0usize; COLUMNS];
     for line in lines {
         for (width, text) in widths.iter_mut().zip(line.iter()) {
             *width = (*width).max(text.len());
         }
     }
-    widths
+    let mut table = String::new(alloc);
+    for line in lines {
+        let text = padded(alloc, line, &widths)?;
+        writeln!(table, "{}", text.trim_end())?;
+    }
+    Ok(table)
 }
 
 // The cells of a line, each as wide as its column.
