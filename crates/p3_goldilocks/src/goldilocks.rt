@@ -74,8 +74,8 @@ impl Add for Goldilocks {
     ghost add_gives = { λ x y r. r ≡ sum_of residues x y };
 
     fn add(self, rhs: Goldilocks) -> Goldilocks {
-        // The sum is what is left where the room up to the order is taken off, and where that is more than there is, the
-        // order more.
+        // `self` less what `rhs` lacks of the order; where that borrows, the order is added back. Written with a comparison
+        // first, a sum took longer.
         let (left, is_below) = self.value.overflowing_sub(ORDER - rhs.value);
         Goldilocks {
             value: if is_below {

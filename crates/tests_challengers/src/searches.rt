@@ -135,7 +135,7 @@ fn finds_bytes<C: ByteGrindingChallenger<1, 1>>(
     Ok(true)
 }
 
-// The same over any hash function. (generic, as the functions of the kinds)
+// The same over any hash function: generic for the reason that `kinds` gives.
 fn hash_finds_bytes<H: CryptographicHasher<u8, [u8; 32]>>(
     challenger: &HashChallenger<u8, H, 32>,
     calls: &Calls,

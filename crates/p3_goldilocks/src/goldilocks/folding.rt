@@ -27,8 +27,8 @@ fn folded_parts(low: u64, middle: u64, high: u64) -> u64
     reduced_sum(lowered, middle * 0xffff_ffff)
 }
 
-// The sum of numbers modulo the order, where it is below twice the order. The number of 2^64 in it once it has 2^32 - 1 more
-// says whether the order is taken off: a compiler makes a comparison there one in vectors, which costs more than it saves.
+// The sum modulo the order, where it is below twice that. With 2^32 - 1 added it carries into bit 64 exactly where the order
+// is to be taken off. Compilers make a comparison there one in vectors, which costs more than it saves.
 #[inline(always)]
 fn reduced_sum(x: u64, y: u64) -> u64
     requires { x + y < 2 * order }
