@@ -69,6 +69,34 @@ size_t tealmuze_prove_prepared(tealmuze_prepared *prepared,
                                const uint8_t *values, size_t values_len,
                                uint8_t *answer, size_t answer_len);
 
+/* One side of a transcript that is played step by step. */
+typedef struct tealmuze_transcript tealmuze_transcript;
+
+/* Begins a prover of a prepared protocol. The answer is 0 alone, and *transcript a pointer for the two calls below; or it is
+ * 1 where the seed is refused, or 3, and *transcript is unchanged. It has 1009 bytes at most. `prepared` is a pointer that
+ * tealmuze_prepare wrote. Calls with a prepared protocol and with all transcripts that are of it are made one at a time. */
+size_t tealmuze_prover(tealmuze_prepared *prepared,
+                       tealmuze_transcript **transcript,
+                       uint8_t *answer, size_t answer_len);
+
+/* Begins a verifier of a proof, of which it makes a copy, and answers as tealmuze_prover does. */
+size_t tealmuze_verifier(tealmuze_prepared *prepared,
+                         const uint8_t *proof, size_t proof_len,
+                         tealmuze_transcript **transcript,
+                         uint8_t *answer, size_t answer_len);
+
+/* Plays the next step of a transcript. A request is the step, in the form of descriptions, and then the value that a prover
+ * sends there, if it sends one, or the witness (a number) that is carried to a verifier, if one is. A request of no bytes
+ * asks for the end. What stands in the answer is in docs/BINDINGS.md. After an answer 2 nothing was played; after a 1 no
+ * step may follow; and after a 3 the transcript is as it was, or no step may follow. `transcript` is a pointer that
+ * tealmuze_prover or tealmuze_verifier wrote. */
+size_t tealmuze_step(tealmuze_transcript *transcript,
+                     const uint8_t *request, size_t request_len,
+                     uint8_t *answer, size_t answer_len);
+
+/* Frees a transcript. It may not be called with after that. */
+void tealmuze_free(tealmuze_transcript *transcript);
+
 #ifdef __cplusplus
 }
 #endif

@@ -2,35 +2,17 @@
 //! write nothing beyond it, and to answer the same with the protocol prepared. `cargo run --release --example changed 100000`,
 //! and once under valgrind with fewer.
 use std::ptr::{self, NonNull};
-use tealmuze::{Kind, Protocol, Step, Suite};
 
+mod hostile;
+#[allow(dead_code)]
 #[path = "../src/library.rs"]
 mod library;
 
-const ROOM: usize = 1 << 16;
-const UNWRITTEN: u8 = 0xa5;
-const PROOF: [u8; 24] =
-    *b"\x00\x11\x22\x33\x44\x55\x66\x77\x02\0\0\0\x01\0\0\0\x02\0\0\0\x36\x02hi";
+use hostile::{demo, Chance, PROOF, UNWRITTEN};
 
-// Xorshift of 64 bits.
-struct Chance(u64);
+const ROOM: usize = 1 << 16;
 
 impl Chance {
-    fn next(&mut self) -> u64 {
-        self.0 ^= self.0 << 13;
-        self.0 ^= self.0 >> 7;
-        self.0 ^= self.0 << 17;
-        self.0
-    }
-
-    fn below(&mut self, most: usize) -> usize {
-        (self.next() % most.max(1) as u64) as usize
-    }
-
-    fn bytes(&mut self, most: usize) -> Vec<u8> {
-        (0..self.below(most)).map(|_| self.next() as u8).collect()
-    }
-
     // The bytes with some of them changed, cut off, put in or taken out.
     fn changed(&mut self, bytes: &[u8]) -> Vec<u8> {
         let mut bytes = bytes.to_vec();
@@ -165,21 +147,6 @@ fn prepare(description: &[u8]) -> Result<NonNull<u8>, Told> {
     }
 }
 
-fn demo() -> Vec<u8> {
-    Protocol::builder(Suite::BabyBearElements, 2, "demo")
-        .instance(b"example")
-        .step("demo", Step::Begin(Kind::Protocol))
-        .step("inputs", Step::PublicScalarsBounded(4, vec![9]))
-        .step("salt", Step::Salt(8))
-        .step("values", Step::ScalarsBounded(4))
-        .step("work", Step::Pow(8))
-        .step("alpha", Step::ChallengeScalar)
-        .step("note", Step::HintBounded(16))
-        .step("indices", Step::ChallengeUniformBits { width: 4, n: 2 })
-        .step("demo", Step::End(Kind::Protocol))
-        .description()
-}
-
 fn values() -> Vec<u8> {
     let number = |it: u64| it.to_le_bytes();
     [
@@ -243,7 +210,7 @@ fn main() {
         .nth(1)
         .map_or(100_000, |it| it.parse().unwrap());
     let mut chance = Chance(0x9e37_79b9_7f4a_7c15);
-    let (demo, values) = (demo(), values());
+    let (demo, values) = (demo().description(), values());
     // once for all rounds, since what is prepared is never freed
     let demo_prepared = prepare(&demo).unwrap();
     let mut verdicts = [[0u64; 5]; 2];

@@ -56,9 +56,11 @@ pub(crate) fn room_for(bytes: usize, for_none: usize) -> usize {
     for_none.saturating_add(bytes.saturating_mul(8))
 }
 
-// The room that is given first where nothing is known of the description. Many steps or draws want more.
-fn first_room(bytes: usize) -> usize {
-    room_for(bytes, 2048)
+// The room that is given first, with which most protocols are played by one call: a step wants 40 bytes, and has 17 at least
+// in a description. Many draws want more, and then the description is read twice.
+fn first_room(protocol: &Protocol, bytes: usize) -> usize {
+    let steps = protocol.description().len().saturating_mul(3);
+    room_for(bytes, steps.saturating_add(2048))
 }
 
 /// What stands after the first byte, where that says that all went well.
@@ -140,7 +142,7 @@ pub(crate) fn proved(
 /// Each call reads the description. For many proofs of one protocol [`Protocol::prepare`] reads it once.
 pub fn verify(protocol: &Protocol, proof: &[u8], carried: &[u64]) -> Result<Verified, Error> {
     let description = protocol.description();
-    verified(protocol, first_room(proof.len()), |answer| {
+    verified(protocol, first_room(protocol, proof.len()), |answer| {
         // SAFETY: each pointer and count are those of a slice that is borrowed for the call, the description's for good; the
         // declaration is the library's, which requires nothing else.
         unsafe {
@@ -164,7 +166,7 @@ pub fn verify(protocol: &Protocol, proof: &[u8], carried: &[u64]) -> Result<Veri
 pub fn prove(protocol: &Protocol, values: &[Value]) -> Result<Proved, Error> {
     let description = protocol.description();
     let values = encoded(values);
-    proved(protocol, first_room(values.len()), |answer| {
+    proved(protocol, first_room(protocol, values.len()), |answer| {
         // SAFETY: as of `verify`.
         unsafe {
             tealmuze_prove(

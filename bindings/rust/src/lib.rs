@@ -20,7 +20,8 @@
 //! ```
 //!
 //! Each of these calls reads the protocol's description and makes its pattern. For many proofs of one protocol,
-//! [`Protocol::prepare`] does that once, and keeps it for as long as the program runs: [`Prepared`].
+//! [`Protocol::prepare`] does that once, and keeps it for as long as the program runs: [`Prepared`]. Of that a [`Prover`] and a
+//! [`Verifier`] play one step at a time, where what is sent depends on what was drawn.
 #![no_std]
 #![deny(missing_docs)]
 
@@ -29,12 +30,14 @@ extern crate alloc;
 mod call;
 mod error;
 mod library;
+mod live;
 mod prepared;
 mod protocol;
 mod value;
 
 pub use call::{prove, verify, Proved, Verified};
 pub use error::Error;
+pub use live::{Played, Prover, Verifier};
 pub use prepared::Prepared;
 pub use protocol::{Builder, Kind, Protocol, Step, Suite};
 pub use value::{Challenge, Value};

@@ -48,4 +48,30 @@ unsafe extern "C" {
         answer: *mut u8,
         answer_len: usize,
     ) -> usize;
+
+    pub(crate) fn tealmuze_prover(
+        prepared: *mut u8,
+        transcript: *mut *mut u8,
+        answer: *mut u8,
+        answer_len: usize,
+    ) -> usize;
+
+    pub(crate) fn tealmuze_verifier(
+        prepared: *mut u8,
+        proof: *const u8,
+        proof_len: usize,
+        transcript: *mut *mut u8,
+        answer: *mut u8,
+        answer_len: usize,
+    ) -> usize;
+
+    pub(crate) fn tealmuze_step(
+        transcript: *mut u8,
+        request: *const u8,
+        request_len: usize,
+        answer: *mut u8,
+        answer_len: usize,
+    ) -> usize;
+
+    pub(crate) fn tealmuze_free(transcript: *mut u8);
 }

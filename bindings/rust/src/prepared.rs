@@ -86,6 +86,16 @@ impl Protocol {
 }
 
 impl Prepared {
+    /// What `tealmuze_prepare` wrote.
+    pub(crate) fn kept(&self) -> *mut u8 {
+        self.kept.as_ptr()
+    }
+
+    /// How many coefficients an element of the extension has.
+    pub(crate) fn degree(&self) -> usize {
+        self.protocol.degree()
+    }
+
     /// Verifies a proof of the protocol, with the witnesses that the caller carries to its `ObservePow` steps, as
     /// [`verify`](crate::verify) does.
     pub fn verify(&self, proof: &[u8], carried: &[u64]) -> Result<Verified, Error> {

@@ -151,6 +151,19 @@ impl Step {
     }
 }
 
+impl Step {
+    /// Adds the step in the form of descriptions.
+    pub(crate) fn put(&self, label: &str, to: &mut Vec<u8>) {
+        let (what, numbers) = self.parts();
+        to.push(what);
+        put_text(to, label);
+        put_number(to, numbers.len() as u64);
+        for number in numbers {
+            put_number(to, number);
+        }
+    }
+}
+
 /// Adds a number: 8 bytes, the lowest first.
 pub(crate) fn put_number(to: &mut Vec<u8>, number: u64) {
     to.extend_from_slice(&number.to_le_bytes());
@@ -233,13 +246,7 @@ impl Builder {
 
     /// Adds a step. A label has at most 255 bytes: with a longer one the description is none, and the calls say so.
     pub fn step(mut self, label: &str, step: Step) -> Builder {
-        let (what, numbers) = step.parts();
-        self.steps.push(what);
-        put_text(&mut self.steps, label);
-        put_number(&mut self.steps, numbers.len() as u64);
-        for number in numbers {
-            put_number(&mut self.steps, number);
-        }
+        step.put(label, &mut self.steps);
         self.step_count += 1;
         self
     }

@@ -39,7 +39,8 @@ pub(crate) fn encoded(values: &[Value]) -> Vec<u8> {
     to
 }
 
-fn put_value(to: &mut Vec<u8>, value: &Value) {
+/// Encodes a value.
+pub(crate) fn put_value(to: &mut Vec<u8>, value: &Value) {
     match value {
         Value::Bytes(bytes) => {
             to.push(0);
@@ -88,7 +89,8 @@ impl<'a> Reader<'a> {
         count: u64,
         mut read: impl FnMut(&mut Self) -> Option<T>,
     ) -> Option<Vec<T>> {
-        let mut all = Vec::new();
+        // Each takes a byte at least.
+        let mut all = Vec::with_capacity(usize::try_from(count).ok()?.min(self.left.len()));
         for _ in 0..count {
             all.push(read(self)?);
         }
@@ -99,6 +101,18 @@ impl<'a> Reader<'a> {
     pub(crate) fn list<T>(&mut self, read: impl FnMut(&mut Self) -> Option<T>) -> Option<Vec<T>> {
         let count = self.number()?;
         self.so_many(count, read)
+    }
+
+    /// None or one, after how many there are.
+    pub(crate) fn none_or_one<T>(
+        &mut self,
+        mut read: impl FnMut(&mut Self) -> Option<T>,
+    ) -> Option<Option<T>> {
+        match self.number()? {
+            0 => Some(None),
+            1 => Some(Some(read(self)?)),
+            _ => None,
+        }
     }
 
     pub(crate) fn counted(&mut self) -> Option<Vec<u8>> {

@@ -1,5 +1,5 @@
 //! Plays what the Rust crate answered, row by row: the repository's files of rows, which `docs/VECTORS.md` describes. Each is
-//! also played with the protocol prepared.
+//! also played with the protocol prepared, whole and step by step.
 mod both;
 
 use both::Both;
@@ -172,7 +172,7 @@ fn row(line: &str) -> Option<Row<'_>> {
     for chunk in &words[4..] {
         builder = builder.instance(&hex(chunk));
     }
-    let (mut values, mut after) = (Vec::new(), Vec::new());
+    let (mut values, mut after, mut steps) = (Vec::new(), Vec::new(), Vec::new());
     for entry in script.split(" ; ").filter(|it| !it.is_empty()) {
         let words: Vec<&str> = entry.split_whitespace().collect();
         if ["narg", "flip", "cut", "more", "carried", "next"].contains(&words[0]) {
@@ -180,11 +180,12 @@ fn row(line: &str) -> Option<Row<'_>> {
             continue;
         }
         let (step, value) = step(&words, degree)?;
+        steps.push((words[1].to_string(), step.clone()));
         builder = builder.step(words[1], step);
         values.extend(value);
     }
     Some(Row {
-        protocol: Both::of(builder.build()),
+        protocol: Both::of_steps(builder.build(), steps),
         values,
         after,
         answer,

@@ -1,5 +1,5 @@
 // How long the steps of both drivers take: messages of one scalar each, or messages and challenges in turn. A row that
-// counts the seed also makes the driver, which renders the pattern, hashes it and observes the seed.
+// counts the seed also makes the driver, which observes the seed.
 ghost use Rattle.std.specs.Prelude.{◌≤◌};
 
 use crate::hash::{Chain, new_chain};

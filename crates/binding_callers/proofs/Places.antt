@@ -18,10 +18,10 @@ module _ {X S Symbol F EF O : Type 0} (play : X → Play S Symbol F EF O) where
   absorbed-at place xs [] x v e f = absurd (cc)
 
 -- equal symbols tell what equal values absorbed tell
-module _ {X S Symbol I F EF O Ac U D : Type 0} (rules : Rules S Symbol I F EF O Ac) (play : X → Play S Symbol F EF O)
-    (bind : SymbolsBind U D rules play) where
+module _ {X S Symbol I F EF O Ac : Type 0} (rules : Rules S Symbol I F EF O Ac) (play : X → Play S Symbol F EF O)
+    (bind : SymbolsBind rules play) where
   pub told : {Same : Type 0} (a b : X) (v w : Value F EF) → ((play a).absorbed v ≡ (play b).absorbed w → Same) →
-      SymbolsTell U D rules play a v b w Same
+      SymbolsTell rules play a v b w Same
   told a b v w tells x y place feed here there =
       elim ((bind x y feed).steps) [
         | inl same ↦

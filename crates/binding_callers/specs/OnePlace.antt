@@ -8,7 +8,7 @@ use Rattle.p3_challenger.specs.Step.TheVariants as step
 use Rattle.p3_challenger.specs.Values as value
 
 -- at this place of the run stands this step, with this value
-pub record StandsAt {X F EF S U D : Type 0} (place : ℕ) (run : Run X F EF S U D) (x : X) (v : Value F EF) : Type 0 where
+pub record StandsAt {X F EF S : Type 0} (place : ℕ) (run : Run X F EF S) (x : X) (v : Value F EF) : Type 0 where
   pub step_is : slice_get run.steps place ≡ Some x
   pub value_is : slice_get run.values place ≡ Some v
 
@@ -19,10 +19,10 @@ pub record SameList {A : Type 0} (xs ys : List A) : Type 0 where
 
 -- Equal symbols tell this of two steps with their values: wherever two runs feed the same symbols, and these stand at one
 -- place of them, it is so, unless the renderings of the patterns collide.
-abbrev pub SymbolsTell : {X S Symbol I F EF O Ac : Type 0} (U D : Type 0) → Rules S Symbol I F EF O Ac →
+abbrev pub SymbolsTell : {X S Symbol I F EF O Ac : Type 0} → Rules S Symbol I F EF O Ac →
     (X → Play S Symbol F EF O) → X → Value F EF → X → Value F EF → Type 0 → Type 0
-SymbolsTell {X} {S} {Symbol} {I} {F} {EF} U D rules play a v b w Same =
-    (x y : Run X F EF S U D) (place : ℕ) → FeedTheSame rules play x y → StandsAt place x a v → StandsAt place y b w →
+SymbolsTell {X} {S} {Symbol} {I} {F} {EF} rules play a v b w Same =
+    (x y : Run X F EF S) (place : ℕ) → FeedTheSame rules play x y → StandsAt place x a v → StandsAt place y b w →
     Same ⊎ Collide rules.digest_of (alternate_rendering (pattern x)) (alternate_rendering (pattern y))
 
 module _ {S Symbol I F EF O Ac : Type 0} (Su U C K D G It St Sy : Type 0) (rules : Rules S Symbol I F EF O Ac) where
@@ -33,7 +33,7 @@ module _ {S Symbol I F EF O Ac : Type 0} (Su U C K D G It St Sy : Type 0) (rules
   Label = Bor (List ℕ)
 
   abbrev Told : Step → Value F EF → Step → Value F EF → Type 0 → Type 0
-  Told = SymbolsTell U D rules (play_of rules)
+  Told = SymbolsTell rules (play_of rules)
 
   -- what both sides know: a public value; a public list, and one after its count, with their lengths
   abbrev pub PublicValuesAreTold : Type 0

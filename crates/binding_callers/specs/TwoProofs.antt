@@ -5,7 +5,7 @@ use Rattle.p3_challenger.specs.{Step.Step, Verdicts.with_steps, Verified.Verifie
 
 -- Both are accepted, and where their runs fed the same symbols, the answers agree but for hints.
 pub record AreTwoProofs {Su F EF U O C K Ac D G It S Symbol : Type 0} (rules : Rules S Symbol It F EF O Ac)
-    (script : Run (Step Su F EF U O C K Ac D G It S Symbol) F EF S U D) (state : C → S) (carried : List F)
+    (script : Run (Step Su F EF U O C K Ac D G It S Symbol) F EF S) (state : C → S) (carried : List F)
     (bytes others : List ℕ) (v w : Verified Su F EF U O C K Ac D G It S Symbol) : Type 0 where
   pub first : IsVerifiedScript rules script bytes carried state v
   pub second : IsVerifiedScript rules script others carried state w

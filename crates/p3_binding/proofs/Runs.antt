@@ -34,14 +34,14 @@ module _ {X S Symbol I F EF O Ac : Type 0} (rules : Rules S Symbol I F EF O Ac) 
     steps-bound _ _ _ _ s t same i j p q k l e = search
 
     -- whole runs, and fronts of equally many steps
-    same-steps : {U D : Type 0} (x y : Run X F EF S U D) → IsFinished rules play x → IsFinished rules play y →
+    same-steps : (x y : Run X F EF S) → IsFinished rules play x → IsFinished rules play y →
         (IsWhole rules play x × IsWhole rules play y) ⊎ (length x.steps ≡ length y.steps) →
         SameButTypeNames (pattern x) (pattern y) →
         SameButTypeNames (interactions play x.steps) (interactions play y.steps)
     same-steps x y p q (inl whole) patterns = rw (whole.0, whole.1) patterns
     same-steps x y p q (inr same) patterns = simp (p.in_pattern, q.in_pattern, ← take-map, same, patterns)
 
-    pub absorbed-bound : {U D : Type 0} (x y : Run X F EF S U D) → FeedTheSame rules play x y →
+    pub absorbed-bound : (x y : Run X F EF S) → FeedTheSame rules play x y →
         SameButTypeNames (pattern x) (pattern y) →
         symbols play x.steps x.values ≡ symbols play y.steps y.values →
         absorbed play x.steps x.values ≡ absorbed play y.steps y.values

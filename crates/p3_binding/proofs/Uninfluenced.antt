@@ -31,8 +31,8 @@ module _ {X S Symbol I F EF O Ac : Type 0} (rules : Rules S Symbol I F EF O Ac) 
         (cc, cc)
     steps-agree _ _ _ s h = absurd h
 
-    pub hints-do_not_influence : (U D : Type 0) → HintsDoNotInfluence U D rules play
-    hints-do_not_influence U D x others p q same =
+    pub hints-do_not_influence : HintsDoNotInfluence rules play
+    hints-do_not_influence x others p q same =
         let ends = steps-agree x.steps x.values others (seeded rules play x) same in
         record { draws = ends.0; ends = ends.1 }
 
@@ -57,4 +57,4 @@ module _ {S Symbol I F EF O Ac : Type 0} (r : Rules S Symbol I F EF O Ac) (Su U 
   step-agrees x v w s h = subst (λ u. Same ((play_of r x).effect v) ((play_of r x).effect u) s) h (refl, refl)
 
   pub script-hints : ScriptHintsDoNotInfluence Su U C K D G It St Sm r
-  script-hints = hints-do_not_influence r _ step-agrees U D
+  script-hints = hints-do_not_influence r _ step-agrees

@@ -4,7 +4,7 @@ use Rattle.std.specs.Prelude.{◌≡◌, ◌↔◌, ℕ, ◌⊎◌, List, [], �
 use Rattle.p3_challenger_core.specs.Reading.{AreBytes}
 use Rattle.p3_fs_core.specs.Steps.{Step, alternate_text}
 use Rattle.p3_patterns.specs.{PatternSteps.{PatternSteps, steps_of}, Rendering.{rendering, SameButTypeNames}}
-use Rattle.p3_domain_separator.specs.SeparatorSeed.{separator_of}
+use Rattle.p3_domain_separator.specs.Separators.{contents_of}
 use Rattle.p3_runs.specs.{Plays.Play, Rules.Rules, Fronts.{Run, pattern, IsFinished, IsWhole, symbols, absorbed}}
 use Rattle.p3_runs.specs.Absorbed.{Absorbed, Bytes, Own}
 use Rattle.p3_binding.specs.Hints.{HintsDoNotInfluence}
@@ -42,44 +42,44 @@ AreHeld IsOwn (a ∷ more) = IsHeld IsOwn a × AreHeld IsOwn more
 -- ---- runs
 
 -- the protocols and the instances are the same
-pub record SameProtocol {X F EF S U D : Type 0} (x y : Run X F EF S U D) : Type 0 where
-  pub version : (separator_of x.separator).version ≡ (separator_of y.separator).version
-  pub name : (separator_of x.separator).name ≡ (separator_of y.separator).name
-  pub chunks : (separator_of x.separator).chunks ≡ (separator_of y.separator).chunks
+pub record SameProtocol {X F EF S : Type 0} (x y : Run X F EF S) : Type 0 where
+  pub version : (contents_of x.separator).version ≡ (contents_of y.separator).version
+  pub name : (contents_of x.separator).name ≡ (contents_of y.separator).name
+  pub chunks : (contents_of x.separator).chunks ≡ (contents_of y.separator).chunks
 
-module _ {X S Symbol I F EF O Ac U D : Type 0} (rules : Rules S Symbol I F EF O Ac) (play : X → Play S Symbol F EF O) where
+module _ {X S Symbol I F EF O Ac : Type 0} (rules : Rules S Symbol I F EF O Ac) (play : X → Play S Symbol F EF O) where
   -- the patterns are the same except for the names of types, and so is what each step absorbed
-  pub record SameSteps (x y : Run X F EF S U D) : Type 0 where
+  pub record SameSteps (x y : Run X F EF S) : Type 0 where
     pub patterns : SameButTypeNames (pattern x) (pattern y)
     pub values : absorbed rules play x ≡ absorbed rules play y
 
   -- Two runs are finished and feed the same symbols, and a program can hold what they absorb. Either both are whole, or
   -- both are prefixes of equally many steps.
-  pub record FeedTheSame (x y : Run X F EF S U D) : Type 0 where
+  pub record FeedTheSame (x y : Run X F EF S) : Type 0 where
     pub finished : IsFinished rules play x × IsFinished rules play y
     pub held : AreHeld rules.IsOwn (absorbed rules play x) × AreHeld rules.IsOwn (absorbed rules play y)
     pub as_far : (IsWhole rules play x × IsWhole rules play y) ⊎ (length x.steps ≡ length y.steps)
     pub same : symbols rules play x ≡ symbols rules play y
 
   -- Their protocols and instances are the same, and so are their steps, unless the renderings of their patterns collide.
-  pub record AreBound (x y : Run X F EF S U D) : Type 0 where
+  pub record AreBound (x y : Run X F EF S) : Type 0 where
     pub protocol : SameProtocol x y
     pub steps : SameSteps x y ⊎ Collide rules.digest_of (alternate_rendering (pattern x)) (alternate_rendering (pattern y))
 
 -- equal symbols bind any two runs, under any separators and from any challengers
-abbrev pub SymbolsBind : {X S Symbol I F EF O Ac : Type 0} (U D : Type 0) → Rules S Symbol I F EF O Ac →
+abbrev pub SymbolsBind : {X S Symbol I F EF O Ac : Type 0} → Rules S Symbol I F EF O Ac →
     (X → Play S Symbol F EF O) → Type 0
-SymbolsBind {X} {S} {Symbol} {I} {F} {EF} U D rules play =
-    (x y : Run X F EF S U D) → FeedTheSame rules play x y → AreBound rules play x y
+SymbolsBind {X} {S} {Symbol} {I} {F} {EF} rules play =
+    (x y : Run X F EF S) → FeedTheSame rules play x y → AreBound rules play x y
 
 -- ---- scripts
 
 module _ {S Symbol I F EF O Ac : Type 0} (Su U C K D G It St Sy : Type 0) (rules : Rules S Symbol I F EF O Ac) where
   -- equal symbols bind the runs of scripts
   abbrev pub ScriptSymbolsBind : Type 0
-  ScriptSymbolsBind = SymbolsBind U D rules (λ (x : script.Step Su F EF U O C K Ac D G It St Sy). play_of rules x)
+  ScriptSymbolsBind = SymbolsBind rules (λ (x : script.Step Su F EF U O C K Ac D G It St Sy). play_of rules x)
 
   -- hints do not influence the runs of scripts
   abbrev pub ScriptHintsDoNotInfluence : Type 0
   ScriptHintsDoNotInfluence =
-      HintsDoNotInfluence U D rules (λ (x : script.Step Su F EF U O C K Ac D G It St Sy). play_of rules x)
+      HintsDoNotInfluence rules (λ (x : script.Step Su F EF U O C K Ac D G It St Sy). play_of rules x)

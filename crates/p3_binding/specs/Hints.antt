@@ -44,16 +44,16 @@ module _ {X S Symbol F EF O : Type 0} (play : X → Play S Symbol F EF O) where
 
 -- ---- runs
 
-module _ {X S Symbol I F EF O Ac U D : Type 0} (rules : Rules S Symbol I F EF O Ac) (play : X → Play S Symbol F EF O) where
+module _ {X S Symbol I F EF O Ac : Type 0} (rules : Rules S Symbol I F EF O Ac) (play : X → Play S Symbol F EF O) where
   -- the challenges are the same, and so are the final challengers
-  pub record SameEnds (x y : Run X F EF S U D) : Type 0 where
+  pub record SameEnds (x y : Run X F EF S) : Type 0 where
     pub draws : challenges rules play x ≡ challenges rules play y
     pub ends : last rules play x ≡ last rules play y
 
 -- Hints do not influence challenges. Finished runs of one script, separator and challenger have the same challenges
 -- and final challengers, if their values are the same except for hints and witnesses of 0 bits.
-abbrev pub HintsDoNotInfluence : {X S Symbol I F EF O Ac : Type 0} (U D : Type 0) → Rules S Symbol I F EF O Ac →
+abbrev pub HintsDoNotInfluence : {X S Symbol I F EF O Ac : Type 0} → Rules S Symbol I F EF O Ac →
     (X → Play S Symbol F EF O) → Type 0
-HintsDoNotInfluence {X} {S} {Symbol} {I} {F} {EF} U D rules play = (x : Run X F EF S U D) (others : List (Value F EF)) →
+HintsDoNotInfluence {X} {S} {Symbol} {I} {F} {EF} rules play = (x : Run X F EF S) (others : List (Value F EF)) →
     IsFinished rules play x → IsFinished rules play (record x { values = others }) →
     SameButHints play x.steps x.values others → SameEnds rules play x (record x { values = others })

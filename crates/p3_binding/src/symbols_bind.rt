@@ -43,7 +43,7 @@ pub fn binding<S: Suite>()
 {
     symbols_begin::<S::Unit, S::Challenger>();
     counts_are_told();
-    separators_have_seeds::<S::Unit, S::Digest>();
+    separators_have_seeds::<S::Digest>();
     seeds_are_prefix_code();
     identifiers_are_injective();
     labels_are_injective();

@@ -106,7 +106,7 @@ pub use Rattle.p3_runs.specs.Verdicts
 pub use Rattle.p3_binding.specs.Binding
 pub use Rattle.p3_binding.specs.Hints
 pub use Rattle.p3_script.specs.Accepting
-pub use Rattle.p3_script.specs.Draws
+pub use Rattle.p3_script.specs.Alike
 pub use Rattle.p3_script.specs.OneRun
 pub use Rattle.p3_script.specs.ScriptRefusals
 pub use Rattle.p3_script.specs.Scripts

@@ -4,10 +4,12 @@ use Rattle.p3_patterns.specs.PatternSteps.{PatternSteps}
 use Rattle.p3_domain_separator.specs.{Seed.{identifier, label_of, FitsCount}, SeedLaws.identifier_injective}
 use Rattle.p3_domain_separator.specs.{SeparatorLaws.only_chunks, SeparatorSeed.separator_of, Separators.Separator}
 use Rattle.p3_domain_separator.specs.declared.domain_separator.DomainSeparator.{DomainSeparator}
+use Rattle.p3_symmetric.specs.declared.digest_hasher.DigestHasher.{Ghosts}
+use Rattle.p3_patterns.specs.{PatternSteps.steps_of, Rendering.hashed_text}
 
-module _ {U D : Type 0} where
+module _ {U D : Type 0} {hasher : Ghosts D} where
   -- a separator with these bytes and this pattern is made of what they encode
-  pub made_of : (s : DomainSeparator U D) (version : ℕ) (name : List ℕ) (chunks : List (List ℕ))
+  pub made_of : (s : DomainSeparator U D hasher) (version : ℕ) (name : List ℕ) (chunks : List (List ℕ))
       (pattern : PatternSteps) → s.protocol_id ≡ identifier version name → length name ≤ 62 →
       s.instance_label.items ≡ label_of chunks → All FitsCount chunks → s.pattern.value ≡ pattern →
       separator_of s ≡ record { version = version; name = name; chunks = chunks; pattern = pattern }
@@ -18,7 +20,7 @@ module _ {U D : Type 0} where
       (λ i. record { version = parts.0 i; name = parts.1 i; chunks = same i; pattern = pattern_is i })
 
   -- separators with the same bytes and one pattern are made of the same
-  pub same_contents : (s t : DomainSeparator U D) → s.protocol_id ≡ t.protocol_id →
+  pub same_contents : (s t : DomainSeparator U D hasher) → s.protocol_id ≡ t.protocol_id →
       s.instance_label.items ≡ t.instance_label.items → s.pattern.value ≡ t.pattern.value →
       separator_of s ≡ separator_of t
   same_contents s t ids labels patterns =
@@ -29,7 +31,7 @@ module _ {U D : Type 0} where
       t.is_label.counted
       patterns
 
-  pub same_bytes : (s t : DomainSeparator U D) → separator_of s ≡ separator_of t →
+  pub same_bytes : (s t : DomainSeparator U D hasher) → separator_of s ≡ separator_of t →
       (s.protocol_id ≡ t.protocol_id) × (s.instance_label.items ≡ t.instance_label.items)
       × (s.pattern.value ≡ t.pattern.value)
   same_bytes s t same = (
@@ -37,3 +39,11 @@ module _ {U D : Type 0} where
     s.is_label.encoded ∙ ap (λ (p : Separator). label_of p.chunks) same ∙ sym t.is_label.encoded,
     ap (λ (p : Separator). p.pattern) same,
   )
+
+  -- separators of one pattern have one digest
+  pub same_digests : (digest_of : List ℕ → List ℕ) (s t : DomainSeparator U D hasher) →
+      s.digest ≡ digest_of (hashed_text (steps_of s.pattern.value)) →
+      t.digest ≡ digest_of (hashed_text (steps_of t.pattern.value)) → s.pattern.value ≡ t.pattern.value →
+      s.digest ≡ t.digest
+  same_digests digest_of s t one other patterns =
+      one ∙ ap (λ (p : PatternSteps). digest_of (hashed_text (steps_of p))) patterns ∙ sym other

@@ -6,8 +6,7 @@ use Rattle.p3_fs_core.specs.{BigEndian.in_bytes, BigEndianLaws.AreBytes-in_bytes
 use Rattle.p3_patterns.specs.{PatternSteps.steps_of, Rendering.hashed_text}
 use Rattle.p3_symmetric.specs.Digests.{IsDigest}
 use Rattle.p3_domain_separator.specs.Seed.{AreSeedParts, identifier, label_of, counted}
-use Rattle.p3_domain_separator.specs.SeparatorSeed.{seed_of_separator, seed_parts}
-use Rattle.p3_domain_separator.specs.declared.domain_separator.DomainSeparator.{DomainSeparator}
+use Rattle.p3_domain_separator.specs.{SeparatorSeed.{seed_of, seed_parts}, Separators.HeldSeparator}
 
 -- ---- bytes
 
@@ -55,25 +54,25 @@ label-bytes (chunk ∷ chunks) all =
 
 -- ---- seeds
 
-module _ {U D : Type 0} (digest_of : List ℕ → List ℕ) (digests : (text : List ℕ) → IsDigest (digest_of text)) where
-  pub separator-parts : (s : DomainSeparator U D) → AreSeedParts (seed_parts digest_of s)
-  separator-parts s =
-      let id = s.is_identifier in (
+module _ (digest_of : List ℕ → List ℕ) (digests : (text : List ℕ) → IsDigest (digest_of text)) where
+  pub separator-parts : (held : HeldSeparator) → AreSeedParts (seed_parts digest_of held)
+  separator-parts held =
+      let id = held.is_identifier in (
         ap length id.encoded ∙ identifier-long id.version id.name id.short,
-        (digests (hashed_text (steps_of s.pattern.value))).places,
-        s.label_fits,
+        (digests (hashed_text (steps_of held.pattern))).places,
+        held.label_fits,
       )
 
-  pub separator-bytes : (s : DomainSeparator U D) → AreBytes (seed_of_separator digest_of s)
-  separator-bytes s =
-      let id = s.is_identifier in
-      let label = s.is_label in
-      let digest = digest_of (hashed_text (steps_of s.pattern.value)) in
+  pub separator-bytes : (held : HeldSeparator) → AreBytes (seed_of digest_of held)
+  separator-bytes held =
+      let id = held.is_identifier in
+      let label = held.is_label in
+      let digest = digest_of (hashed_text (steps_of held.pattern)) in
       let end : List ℕ = 0x80 ∷ [] in
-      let instance = counted s.instance_label.items in
+      let instance = counted held.label in
       let id_bytes = subst AreBytes (sym id.encoded)
       (identifier-bytes id.version id.name id.version_fits id.short id.bytes) in
       let label_are = subst AreBytes (sym label.encoded) (label-bytes label.chunks label.bytes) in
-      bytes-append s.protocol_id (digest ++ (instance ++ end)) id_bytes
-      (bytes-append digest (instance ++ end) (digests (hashed_text (steps_of s.pattern.value))).bytes
-      (bytes-append instance end (bytes-counted s.instance_label.items label_are) (bytes-one 0x80 (lit< tt))))
+      bytes-append held.protocol_id (digest ++ (instance ++ end)) id_bytes
+      (bytes-append digest (instance ++ end) (digests (hashed_text (steps_of held.pattern))).bytes
+      (bytes-append instance end (bytes-counted held.label label_are) (bytes-one 0x80 (lit< tt))))

@@ -1,5 +1,5 @@
 -- The parts of a separator.
-use Rattle.std.specs.{Prelude.{◌≡◌, ℕ, ◌≤◌, ◌<◌, List, length}, List.All}
+use Rattle.std.specs.{Prelude.{◌≡◌, ℕ, ◌≤◌, ◌<◌, ◌^◌, List, length}, List.All}
 use Rattle.p3_challenger_core.specs.Reading.{AreBytes}
 use Rattle.p3_patterns.specs.PatternSteps.{PatternSteps}
 use Rattle.p3_domain_separator.specs.Seed.{identifier, label_of, FitsCount}
@@ -27,3 +27,18 @@ pub record Separator : Type 0 where
   pub name : List ℕ
   pub chunks : List (List ℕ)
   pub pattern : PatternSteps
+
+-- a separator as it is held: its identifier and its label as bytes, and its pattern
+pub record HeldSeparator : Type 0 where
+  pub protocol_id : List ℕ
+  pub label : List ℕ
+  pub pattern : PatternSteps
+  pub is_identifier : IsIdentifier protocol_id
+  pub is_label : IsLabel label
+  pub label_fits : length label < 2 ^ 32
+
+-- the separator that is held
+abbrev pub contents_of : HeldSeparator → Separator
+contents_of held =
+    let id = held.is_identifier in
+    record { version = id.version; name = id.name; chunks = held.is_label.chunks; pattern = held.pattern }

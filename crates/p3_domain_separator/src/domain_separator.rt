@@ -9,7 +9,7 @@ ghost use Rattle.std.specs.Prelude.{◌≡◌, ◌↔◌, ℕ, true, ◌+◌, �
 ghost use Rattle.std.specs.{Prelude.{IfOk, IfErr}, List.{All, flat_map}};
 ghost use Rattle.p3_challenger_core.specs.{Observation.observed_all, Sponge.IsFed, Reading.IsPrefixCodeOn};
 ghost use Rattle.p3_fs_core.specs.{Alphabet.LeavesItems, declared.error.TranscriptError.TheVariants.OutOfMemory};
-ghost use Rattle.p3_patterns.specs.PatternSteps.{steps_of};
+ghost use Rattle.p3_patterns.specs.{PatternSteps.steps_of, Rendering.hashed_text};
 ghost use Rattle.p3_domain_separator.specs.{Separators.{IsIdentifier, IsLabel}, Seed.{AreSeedParts, seed_of_parts}};
 ghost use Rattle.p3_domain_separator.specs.Seed.{identifier, counted, label_of, FitsCount, RefusesChunk, RefusesSeed};
 ghost use Rattle.p3_domain_separator.specs.SeparatorLaws.{IsIdentifier-prop, IsLabel-prop};
@@ -30,6 +30,9 @@ pub const PROTOCOL_ID_LEN: usize = 64;
 // The last byte of a seed.
 const CLOSING_BYTE: u8 = 0x80;
 
+// The length of the pattern's digest.
+const DIGEST_LEN: usize = 32;
+
 // How many bytes a length is written in.
 const COUNT_LEN: usize = 4;
 
@@ -43,14 +46,17 @@ const MAX_LABEL_LEN: usize = u32::MAX as usize;
 /// Contracts see the parts: the version of the protocol, its name of 1 to 62 bytes, the chunks of the instance's
 /// label, and the pattern. The label stays shorter than 2^32 bytes, so that its length fits in four bytes.
 ///
-/// The Rust crate's `DomainSeparator` holds an `Arc`. Here the hash function for the pattern's digest is a parameter.
-/// Separators can be compared for equality, but neither ordered nor hashed.
+/// The pattern is hashed once, by [`new`](Self::new); each seed takes the digest from there.
+///
+/// The Rust crate's `DomainSeparator` holds an `Arc`, and hashes the pattern for each seed. Here the hash function for
+/// the pattern's digest is a parameter. Separators can be compared for equality, but neither ordered nor hashed.
 #[derive(Drop)]
 #[derive_where(Debug, PartialEq, Eq)]
-pub struct DomainSeparator<U, D> {
+pub struct DomainSeparator<U, D: DigestHasher> {
     protocol_id: [u8; PROTOCOL_ID_LEN],
     instance_label: Vec<u8>,
     pattern: Rc<InteractionPattern>,
+    digest: [u8; DIGEST_LEN],
     alphabet: PhantomData<U>,
     hasher: PhantomData<D>,
     /// The identifier is that of a version and a name.
@@ -58,9 +64,11 @@ pub struct DomainSeparator<U, D> {
     /// The label is that of chunks.
     pub ghost is_label: { IsLabel instance_label.items } by { IsLabel-prop instance_label.items },
     ghost label_fits: { length instance_label.items < 2 ^ 32 },
+    // The digest is that of the pattern's text.
+    ghost is_digest: { digest ≡ D.digest_of (hashed_text (steps_of pattern.value)) },
 }
 
-impl<U, D> DomainSeparator<U, D> {
+impl<U, D: DigestHasher> DomainSeparator<U, D> {
     ghost use Rattle.p3_domain_separator.specs.SeparatorSeed.{separator_of};
 
     /// Returns a separator of the protocol with this version, name and pattern, for an instance with no label yet.
@@ -81,10 +89,12 @@ impl<U, D> DomainSeparator<U, D> {
             ≡ record { version = version; name = name.now; chunks = []; pattern = pattern }) }
         ensures err { IfErr result (λ e. e ≡ OutOfMemory) }
     {
+        let digest = pattern.pattern_hash::<D>()?;
         Ok(DomainSeparator {
             protocol_id: protocol_identifier(version, name),
             instance_label: Vec::new(alloc),
             pattern: Rc::new(alloc, pattern)?,
+            digest,
             alphabet: PhantomData,
             hasher: PhantomData,
         })
@@ -168,6 +178,7 @@ impl<U, D> DomainSeparator<U, D> {
             protocol_id: self.protocol_id,
             instance_label: self.instance_label.clone()?,
             pattern: self.pattern.clone()?,
+            digest: self.digest,
             alphabet: PhantomData,
             hasher: PhantomData,
         })
@@ -175,7 +186,7 @@ impl<U, D> DomainSeparator<U, D> {
 }
 
 impl<U: Unit, D: DigestHasher> DomainSeparator<U, D> {
-    ghost use Rattle.p3_domain_separator.specs.SeparatorSeed.{seed_parts, seed_of_separator};
+    ghost use Rattle.p3_domain_separator.specs.SeparatorSeed.{held_of, seed_parts, seed_of_separator};
 
     /// Observes the seed as one byte string. The seed is the identifier, the digest of the pattern, the label after
     /// its length in four bytes, highest first, and a byte 0x80.
@@ -203,7 +214,7 @@ impl<U: Unit, D: DigestHasher> DomainSeparator<U, D> {
             OnOk result (C.state challenger.new ≡ C.fed (C.state challenger.old)
             (flat_map C.observation.symbols (U.items (seed_of_separator D.digest_of self.now)))) }
         // The seed is that of an identifier, a digest and a label.
-        ensures parts { OnOk result (AreSeedParts (seed_parts D.digest_of self.now)) }
+        ensures parts { OnOk result (AreSeedParts (seed_parts D.digest_of (held_of self.now))) }
     {
         let seed = self.seed_bytes()?;
         U::observe_bytes(challenger, &seed)?;
@@ -214,13 +225,12 @@ impl<U: Unit, D: DigestHasher> DomainSeparator<U, D> {
     fn seed_bytes(&self) -> Result<Vec<u8>, TranscriptError>
         ensures bytes { IfOk result (λ seed. seed.items ≡ seed_of_separator D.digest_of self.now) }
         ensures err { IfErr result (λ e. e ≡ OutOfMemory) }
-        ensures parts { OnOk result (AreSeedParts (seed_parts D.digest_of self.now)) }
+        ensures parts { OnOk result (AreSeedParts (seed_parts D.digest_of (held_of self.now))) }
     {
-        let digest = self.pattern.pattern_hash::<D>()?;
-        let len = PROTOCOL_ID_LEN + digest.len() + COUNT_LEN + self.instance_label.len() + 1;
+        let len = PROTOCOL_ID_LEN + DIGEST_LEN + COUNT_LEN + self.instance_label.len() + 1;
         let mut seed = Vec::with_capacity(*self.instance_label.allocator(), len)?;
         seed.extend_from_slice(self.protocol_id())?;
-        seed.extend_from_slice(&digest)?;
+        seed.extend_from_slice(&self.digest)?;
         push_counted(&mut seed, self.instance_label())?;
         seed.push(CLOSING_BYTE)?;
         Ok(seed)

@@ -1,7 +1,7 @@
 //! Every separator has a seed.
 ghost use Rattle.p3_challenger_core.specs.Reading.{AreBytes};
-ghost use Rattle.p3_domain_separator.specs.{Seed.AreSeedParts, SeparatorSeed.{seed_parts, seed_of_separator}};
-ghost use Rattle.p3_domain_separator.specs.declared.domain_separator.DomainSeparator.{DomainSeparator};
+ghost use Rattle.p3_domain_separator.specs.{Seed.AreSeedParts, SeparatorSeed.{seed_parts, seed_of}};
+ghost use Rattle.p3_domain_separator.specs.Separators.{HeldSeparator};
 
 use p3_symmetric::DigestHasher;
 
@@ -9,7 +9,7 @@ use p3_symmetric::DigestHasher;
 /// bytes.
 ///
 /// A law: the body is empty, and a caller cites the clauses.
-pub fn separators_have_seeds<U, D: DigestHasher>()
-    ensures parts { (s : DomainSeparator U D) → AreSeedParts (seed_parts D.digest_of s) }
-    ensures bytes { (s : DomainSeparator U D) → AreBytes (seed_of_separator D.digest_of s) }
+pub fn separators_have_seeds<D: DigestHasher>()
+    ensures parts { (held : HeldSeparator) → AreSeedParts (seed_parts D.digest_of held) }
+    ensures bytes { (held : HeldSeparator) → AreBytes (seed_of D.digest_of held) }
 {}

@@ -298,6 +298,30 @@ impl<'a, C: Sponge + Drop, U, D: DigestHasher> VerifierState<'a, C, U, D> {
         self.tape.bytes
     }
 
+    /// Spends the verifier, and returns one at the same step with the same challenger, whose unread bytes are `narg`.
+    ///
+    /// A caller that keeps the proof itself lends it for a step at a time by this call: what `unread` returned after one
+    /// step is what is lent for the next. Not in the Rust crate.
+    pub fn with_unread<'b>(self, narg: &'b [u8]) -> VerifierState<'b, C, U, D>
+        ensures transcript { played_by C.state result ≡ played_by C.state self.entry }
+        ensures unread { (verifying_of C.state result).bytes ≡ narg.now }
+    {
+        let DriverState {
+            challenger,
+            steps,
+            tape: _,
+            alloc,
+            unit,
+        } = self;
+        DriverState {
+            challenger,
+            steps,
+            tape: Unread { bytes: narg },
+            alloc,
+            unit,
+        }
+    }
+
     /// Spends the verifier. The result is `Ok` exactly where no step was refused, none is left, and the whole proof was
     /// read.
     ///

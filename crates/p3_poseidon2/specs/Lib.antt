@@ -1,6 +1,6 @@
 pub mod Poseidon2
 pub mod Layers
-pub mod Pairs
+pub mod Begun
 pub mod BabyBear16
 pub mod BabyBear24
 pub mod KoalaBear16

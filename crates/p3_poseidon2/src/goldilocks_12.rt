@@ -5,10 +5,9 @@ ghost use Rattle.p3_goldilocks.specs.GoldilocksResidues.{residues};
 ghost use Rattle.p3_poseidon2.specs.Goldilocks12 as table;
 
 use crate::Poseidon2;
-use crate::alone::Alone;
-use crate::cells::{broadcast_each, lane_each, wide_elements_of};
+use crate::cells::wide_elements_of;
 use p3_goldilocks::Goldilocks;
-use p3_lanes::{GoldilocksLanes, LanePermutation};
+use p3_lanes::{GoldilocksLanes, LanePermutation, permute_each_lane};
 use p3_symmetric::CryptographicPermutation;
 
 /// Poseidon2 over [`Goldilocks`] with 12 cells: S-boxes of degree 7, 8 external rounds and 22 internal ones.
@@ -191,15 +190,13 @@ impl CryptographicPermutation<[Goldilocks; 12]> for Poseidon2<Goldilocks, 12, 7,
         permuted residues 12 7 p.diagonal p.initial p.internal p.terminal cells };
 
     fn permute_mut(&self, state: &mut [Goldilocks; 12]) {
-        let mut cells = broadcast_each::<Goldilocks, Alone<Goldilocks>, 12>(state);
-        self.permute_cells::<Alone<Goldilocks>>(&mut cells);
-        *state = lane_each::<Goldilocks, Alone<Goldilocks>, 12>(&cells, 0);
+        self.permute_unreduced(state);
     }
 }
 
 impl LanePermutation<Goldilocks, 12> for Poseidon2<Goldilocks, 12, 7, 22> {
     fn permute_lanes(&self, state: &mut [GoldilocksLanes; 12]) {
-        self.permute_pairs(state);
+        permute_each_lane::<Goldilocks, Self, 12>(self, state);
     }
 }
 

@@ -12,13 +12,14 @@ mod baby_bear_24;
 mod cells;
 mod goldilocks_12;
 mod goldilocks_8;
-mod goldilocks_pairs;
 mod koala_bear_16;
 mod koala_bear_24;
 mod layers;
-mod pair;
 mod poseidon2;
 mod rounds;
+mod unreduced;
+mod unreduced_layers;
+mod unreduced_rounds;
 
 pub use baby_bear_16::{Poseidon2BabyBear16, default_babybear_poseidon2_16};
 pub use baby_bear_24::{Poseidon2BabyBear24, default_babybear_poseidon2_24};

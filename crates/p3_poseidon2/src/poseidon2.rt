@@ -1,10 +1,14 @@
 //! The permutation Poseidon2.
-ghost use Rattle.std.specs.Prelude.{◌≡◌, ℕ, ◌<◌, ◌%◌, map, ⊤};
+ghost use Rattle.std.specs.Prelude.{◌≡◌, ℕ, ◌<◌, ◌%◌, ◌^◌, map, ⊤};
+ghost use Rattle.p3_goldilocks.specs.GoldilocksResidues.{residues};
 ghost use Rattle.p3_poseidon2.specs.{Poseidon2.permuted, Layers.IsDegree};
 
+use crate::cells::wide_elements_of;
 use crate::layers::mix_external;
 use crate::rounds::{play_externals, play_internals};
+use crate::{unreduced_layers, unreduced_rounds};
 use p3_field_core::PrimeCharacteristicRing;
+use p3_goldilocks::Goldilocks;
 use p3_lanes::PackedValue;
 use std::alloc::AllocError;
 
@@ -84,5 +88,42 @@ impl<
         play_externals::<F, V, WIDTH, DEGREE, 4>(&self.initial, state);
         play_internals::<F, V, WIDTH, DEGREE, INTERNAL>(&self.diagonal, &self.internal, state);
         play_externals::<F, V, WIDTH, DEGREE, 4>(&self.terminal, state);
+    }
+}
+
+impl<const WIDTH: usize, const DEGREE: u64, const INTERNAL: usize> Poseidon2<
+    Goldilocks,
+    WIDTH,
+    DEGREE,
+    INTERNAL,
+> {
+    // Permutes numbers as the definition says of the elements that they stand for.
+    #[inline(always)]
+    fn permute_numbers(&self, state: &mut [u64; WIDTH])
+        requires { WIDTH < 2 ^ 16 }
+        ensures { map residues.of state.new ≡ permuted residues WIDTH DEGREE self.now.diagonal
+            self.now.initial self.now.internal self.now.terminal (map residues.of state.old) }
+    {
+        unreduced_layers::mix_external::<WIDTH>(&self.initial[0], state);
+        unreduced_rounds::play_externals::<WIDTH, DEGREE>(&self.initial, state);
+        unreduced_rounds::play_internals::<WIDTH, DEGREE, INTERNAL>(
+            &self.diagonal,
+            &self.internal,
+            state,
+        );
+        unreduced_layers::add_constants::<WIDTH>(&self.terminal[0], state);
+        unreduced_rounds::play_externals::<WIDTH, DEGREE>(&self.terminal, state);
+    }
+
+    // Permutes a state as the definition says.
+    #[inline(always)]
+    pub(crate) fn permute_unreduced(&self, state: &mut [Goldilocks; WIDTH])
+        requires { WIDTH < 2 ^ 16 }
+        ensures { state.new ≡ permuted residues WIDTH DEGREE self.now.diagonal self.now.initial
+            self.now.internal self.now.terminal state.old }
+    {
+        let mut numbers = unreduced_rounds::numbers_of::<WIDTH>(state);
+        self.permute_numbers(&mut numbers);
+        *state = wide_elements_of::<Goldilocks, WIDTH>(&numbers);
     }
 }

@@ -25,8 +25,8 @@ module _ {X S Symbol F EF O : Type 0} (play : X → Play S Symbol F EF O) where
       omega (arith, rest, first, both)
   count-carried _ _ h = absurd h
 
-module _ {X S Symbol I F EF O Ac U D : Type 0} (rules : Rules S Symbol I F EF O Ac) (play : X → Play S Symbol F EF O)
-    (script : Run X F EF S U D) (sent : List (Value F EF)) (narg : List ℕ) (witnesses carried : List F)
+module _ {X S Symbol I F EF O Ac : Type 0} (rules : Rules S Symbol I F EF O Ac) (play : X → Play S Symbol F EF O)
+    (script : Run X F EF S) (sent : List (Value F EF)) (narg : List ℕ) (witnesses carried : List F)
     (drawn : List (Challenge F EF)) (end : S) where
   -- a prover returns as many witnesses to carry as there are steps that have one
   pub proved-count : IsProved rules play script sent narg witnesses carried drawn end →

@@ -11,15 +11,15 @@ abbrev pub TellOneFault : (ℕ → TranscriptError → Type 0) → Type 0
 TellOneFault Refuses = (p q : ℕ) (e f : TranscriptError) → Refuses p e → Refuses q f → (e ≡ OutOfMemory → ⊥) →
     (f ≡ OutOfMemory → ⊥) → (p ≡ q) × (refusal_of e ≡ refusal_of f)
 
-module _ {X S Symbol I F EF O Ac : Type 0} (U D : Type 0) (rules : Rules S Symbol I F EF O Ac)
+module _ {X S Symbol I F EF O Ac : Type 0} (rules : Rules S Symbol I F EF O Ac)
     (play : X → Play S Symbol F EF O) (sides : X → Sides S F EF) where
   -- each script of admitted steps is refused to a verifier for one fault, given the same bytes and carried
   -- witnesses
   abbrev pub ProofsTellOneFault : Type 0
-  ProofsTellOneFault = (script : Run X F EF S U D) (bytes : List ℕ) (carried : List F) → AreAdmitted play script.steps →
+  ProofsTellOneFault = (script : Run X F EF S) (bytes : List ℕ) (carried : List F) → AreAdmitted play script.steps →
       TellOneFault (RefusesProof rules play sides script bytes carried)
 
   -- each script of admitted steps is refused to a prover for one fault, given the same handed values
   abbrev pub ProvingsTellOneFault : Type 0
-  ProvingsTellOneFault = (script : Run X F EF S U D) (sent : List (Value F EF)) → AreAdmitted play script.steps →
+  ProvingsTellOneFault = (script : Run X F EF S) (sent : List (Value F EF)) → AreAdmitted play script.steps →
       TellOneFault (RefusesToProve rules play sides script sent)

@@ -55,10 +55,10 @@ parts : {S : Type 0} (d : Driving S) (s : S) (p : Playing) (bytes : List ℕ) �
 parts d s p bytes challenger playing left = λ i.
     record { transcript = record { challenger = challenger i; playing = playing i }; bytes = left i }
 
-module _ {X S Symbol I F EF O Ac U D : Type 0} (rules : Rules S Symbol I F EF O Ac) (play : X → Play S Symbol F EF O) where
+module _ {X S Symbol I F EF O Ac : Type 0} (rules : Rules S Symbol I F EF O Ac) (play : X → Play S Symbol F EF O) where
   -- The first i steps were played with these values, and j of the carried witnesses were used. The bytes read, the
   -- values received and the challenges drawn are those of this prefix, and the driver stands after it.
-  pub record Follows (script : Run X F EF S U D) (bytes : List ℕ) (carried : List F) (i j : ℕ) (now : Driving S)
+  pub record Follows (script : Run X F EF S) (bytes : List ℕ) (carried : List F) (i j : ℕ) (now : Driving S)
       (received : List (Value F EF)) (drawn : List (Challenge F EF)) : Type 0 where
     pub before : List X
     pub values : List (Value F EF)
@@ -72,7 +72,7 @@ module _ {X S Symbol I F EF O Ac U D : Type 0} (rules : Rules S Symbol I F EF O 
     pub received_is : received ≡ runs.in_proof play before values
     pub drawn_is : drawn ≡ runs.challenges play before values (seeded rules play script)
 
-  pub follows-start : (script : Run X F EF S U D) (bytes : List ℕ) (carried : List F) (now : Driving S) →
+  pub follows-start : (script : Run X F EF S) (bytes : List ℕ) (carried : List F) (now : Driving S) →
       now ≡ driving_after rules play (with_steps script [] []) bytes →
       (rules.alphabet.is_too_long (length (seed rules play script)) → ⊥) →
       runs.carried_count play script.steps ≡ length carried →
@@ -96,12 +96,12 @@ module _ {X S Symbol I F EF O Ac U D : Type 0} (rules : Rules S Symbol I F EF O 
   -- ---- one more step
 
   -- the driver stands after a prefix, and the step is played with this value
-  module _ (script : Run X F EF S U D) (before : List X) (values : List (Value F EF)) (x : X) (v : Value F EF)
+  module _ (script : Run X F EF S) (before : List X) (values : List (Value F EF)) (x : X) (v : Value F EF)
       (bytes : List ℕ) (here there : Driving S) (t : Option (Challenge F EF))
       (finished : IsFinished rules play (with_steps script before values))
       (stands : here ≡ driving_after rules play (with_steps script before values) bytes) (fits : (play x).Fits v)
       (plays : PlaysStep (meaning (play x) v) here.transcript t there.transcript) where
-    abbrev longer : Run X F EF S U D
+    abbrev longer : Run X F EF S
     longer = with_steps script (before ++ x ∷ []) (values ++ v ∷ [])
 
     matched : AreMatched play before values
@@ -141,7 +141,7 @@ module _ {X S Symbol I F EF O Ac U D : Type 0} (rules : Rules S Symbol I F EF O 
         let here = rw stands at plays in
         rw (challenges-more play before values (seeded rules play script) x v matched, here.gives) refl
 
-  pub follows-on : (script : Run X F EF S U D) (bytes : List ℕ) (carried : List F) (i j k : ℕ) (here there : Driving S)
+  pub follows-on : (script : Run X F EF S) (bytes : List ℕ) (carried : List F) (i j k : ℕ) (here there : Driving S)
       (received shown : List (Value F EF)) (drawn : List (Challenge F EF)) (x : X) (w : Option F)
       (t : Option (Challenge F EF)) → drop i script.steps ≡ x ∷ drop (i + 1) script.steps →
       drop j carried ≡ one_of w ++ drop k carried → IsCarriedTo (play x).place w →
@@ -172,7 +172,7 @@ module _ {X S Symbol I F EF O Ac U D : Type 0} (rules : Rules S Symbol I F EF O 
 
   -- ---- a step is refused
 
-  pub follows-refused : (sides : X → Sides S F EF) (script : Run X F EF S U D) (bytes : List ℕ) (carried : List F) (i j k : ℕ) (here there : Driving S)
+  pub follows-refused : (sides : X → Sides S F EF) (script : Run X F EF S) (bytes : List ℕ) (carried : List F) (i j k : ℕ) (here there : Driving S)
       (received : List (Value F EF)) (drawn : List (Challenge F EF)) (x : X) (w : Option F) (e : TranscriptError) →
       drop i script.steps ≡ x ∷ drop (i + 1) script.steps → drop j carried ≡ one_of w ++ drop k carried →
       IsCarriedTo (play x).place w → Follows script bytes carried i j here received drawn →
@@ -199,7 +199,7 @@ module _ {X S Symbol I F EF O Ac U D : Type 0} (rules : Rules S Symbol I F EF O 
   -- ---- all steps were played
 
   -- the rest of a list past its end
-  module _ (script : Run X F EF S U D) (bytes : List ℕ) (carried : List F) (i j : ℕ) (now : Driving S)
+  module _ (script : Run X F EF S) (bytes : List ℕ) (carried : List F) (i j : ℕ) (now : Driving S)
       (received : List (Value F EF)) (drawn : List (Challenge F EF)) (past : length script.steps ≤ i)
       (f : Follows script bytes carried i j now received drawn) where
     all_played : f.before ≡ script.steps

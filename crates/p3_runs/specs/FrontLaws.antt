@@ -1,7 +1,6 @@
 -- The steps of a finished prefix of a script are the first steps of its pattern.
 use Rattle.std.proofs.Common.{◌≡◌, ℕ, suc, zero, List, [], ◌∷◌, ◌++◌, Some, None, refl, length, take, slice_get, map}
 use Rattle.p3_fs_core.specs.{StepFits.{FitsLength, AreProgramSteps}, Steps.Step}
-use Rattle.p3_domain_separator.specs.SeparatorSeed.{pattern_of}
 use Rattle.p3_runs.specs.{Fronts.{Run, IsFinished, pattern}, Plays.Play, Rules.Rules, Values.Value, Verdicts.with_steps}
 use Rattle.p3_runs.specs.Runs.{AreAdmitted, Finishes, interactions}
 
@@ -47,13 +46,13 @@ module _ {X S Symbol F EF O : Type 0} (play : X → Play S Symbol F EF O) where
 
 -- ---- a finished prefix
 
-module _ {X S Symbol I F EF O Ac U D : Type 0} (rules : Rules S Symbol I F EF O Ac) (play : X → Play S Symbol F EF O)
-    (script : Run X F EF S U D) where
+module _ {X S Symbol I F EF O Ac : Type 0} (rules : Rules S Symbol I F EF O Ac) (play : X → Play S Symbol F EF O)
+    (script : Run X F EF S) where
   -- the steps of a finished prefix fit their types
   pub front-fits : (front : List X) (values : List (Value F EF)) →
       IsFinished rules play (with_steps script front values) → AreProgramSteps (interactions play front)
   front-fits front values finished =
-      rw finished.in_pattern (program-take (pattern script) (length front) (pattern_of script.separator).fit)
+      rw finished.in_pattern (program-take (pattern script) (length front) script.separator.pattern.fit)
 
   -- each step of a finished prefix is the next one of the pattern at its place
   pub front-next : (front : List X) (x : X) (later : List X) (values : List (Value F EF)) →

@@ -10,9 +10,9 @@ use Rattle.p3_runs.specs.{ReachLaws.{Reaches, one-front, passed-step}, Rules.Rul
 use Rattle.p3_runs.specs.{Sides.Sides, Stepping.{IsCanonical, IsTakenWherePossible}, Verdicts.RefusesAtEnd}
 use Rattle.p3_runs.specs.Verdicts.{with_steps, driving_after, IsProof, HasNoProof, RefusesProof, RefusesAtStep}
 
-module _ {X S Symbol I F EF O Ac U D : Type 0} (rules : Rules S Symbol I F EF O Ac) (play : X → Play S Symbol F EF O)
+module _ {X S Symbol I F EF O Ac : Type 0} (rules : Rules S Symbol I F EF O Ac) (play : X → Play S Symbol F EF O)
     (canonical : (x : X) → FitsLength (play x).interaction.length → IsCanonical (play x)) where
-  module _ (script : Run X F EF S U D) (bytes : List ℕ) (carried : List F) (values : List (Value F EF))
+  module _ (script : Run X F EF S) (bytes : List ℕ) (carried : List F) (values : List (Value F EF))
       (proof : IsProof rules play (with_steps script script.steps values) bytes carried) where
     whole : (others : List (Value F EF)) → IsProof rules play (with_steps script script.steps others) bytes carried →
         Reaches rules play script bytes carried script.steps others [] []
@@ -53,7 +53,7 @@ module _ {X S Symbol I F EF O Ac U D : Type 0} (rules : Rules S Symbol I F EF O 
 
   module _ (sides : X → Sides S F EF) (taken : (x : X) → FitsLength (play x).interaction.length → (play x).admitted →
       IsTakenWherePossible (play x) (sides x)) where
-    pub refused-no_proof : (script : Run X F EF S U D) (bytes : List ℕ) (carried : List F) (position : ℕ)
+    pub refused-no_proof : (script : Run X F EF S) (bytes : List ℕ) (carried : List F) (position : ℕ)
         (e : TranscriptError) → AreAdmitted play script.steps →
         RefusesProof rules play sides script bytes carried position e → (e ≡ OutOfMemory → ⊥) →
         HasNoProof rules play script bytes carried
@@ -67,7 +67,7 @@ module _ {X S Symbol I F EF O Ac U D : Type 0} (rules : Rules S Symbol I F EF O 
         ]
 
     -- a refusal, with its consequences
-    pub refused-so : (script : Run X F EF S U D) (bytes : List ℕ) (carried : List F) (position : ℕ)
+    pub refused-so : (script : Run X F EF S) (bytes : List ℕ) (carried : List F) (position : ℕ)
         (e : TranscriptError) → AreAdmitted play script.steps →
         RefusesProof rules play sides script bytes carried position e →
         RefusesProof rules play sides script bytes carried position e

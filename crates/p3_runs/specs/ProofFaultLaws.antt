@@ -18,11 +18,11 @@ one-brought EF Carried (Some x) None a b first second e = absurd (cc)
 one-brought EF Carried (Some x) (Some y) a b first second e = let same : x ≡ y = cc in ap Some same
 one-brought EF _ w u a b first second e = first ∙ sym second
 
-module _ {X S Symbol I F EF O Ac U D : Type 0} (rules : Rules S Symbol I F EF O Ac) (play : X → Play S Symbol F EF O)
+module _ {X S Symbol I F EF O Ac : Type 0} (rules : Rules S Symbol I F EF O Ac) (play : X → Play S Symbol F EF O)
     (sides : X → Sides S F EF) (canonical : (x : X) → FitsLength (play x).interaction.length → IsCanonical (play x))
     (taken : (x : X) → FitsLength (play x).interaction.length → (play x).admitted → IsTakenWherePossible (play x) (sides x))
     (reasons : (x : X) → (play x).admitted → RefuseForOneReason (sides x)) where
-  module _ (script : Run X F EF S U D) (bytes : List ℕ) (carried : List F) (admitted : AreAdmitted play script.steps) where
+  module _ (script : Run X F EF S) (bytes : List ℕ) (carried : List F) (admitted : AreAdmitted play script.steps) where
     -- a verifier stops at this step, after this prefix
     record StopsAt (front : List X) (x : X) (e : TranscriptError) : Type 0 where
       values : List (Value F EF)
@@ -106,7 +106,7 @@ module _ {X S Symbol I F EF O Ac U D : Type 0} (rules : Rules S Symbol I F EF O 
         let again = end-refusal (driving_after rules play (with_steps script script.steps t.values) t.left) f refl t.refuses in
         (r.place ∙ sym t.place, told ∙ sym again)
 
-  pub proofs-one_fault : ProofsTellOneFault U D rules play sides
+  pub proofs-one_fault : ProofsTellOneFault rules play sides
   proofs-one_fault script bytes carried admitted =
       one-fault (rules.alphabet.is_too_long (length (seed rules play script)))
       (RefusesAtStep rules play sides script bytes carried) (RefusesAtEnd rules play script bytes carried)

@@ -10,11 +10,11 @@ use Rattle.p3_runs.specs.{Sides.Sides, Stepping.OrHalts, FaultLaws.{end-refusal,
 use Rattle.p3_runs.specs.{Verdicts.{driving_after, with_steps}, Plays.Play, FrontLaws.next-admitted, Fronts.{seed, Run}}
 use Rattle.p3_runs.specs.Runs as runs
 
-module _ {X S Symbol I F EF O Ac U D : Type 0} (rules : Rules S Symbol I F EF O Ac) (play : X → Play S Symbol F EF O)
+module _ {X S Symbol I F EF O Ac : Type 0} (rules : Rules S Symbol I F EF O Ac) (play : X → Play S Symbol F EF O)
     (sides : X → Sides S F EF) (told : (x : X) → IsDetermined (play x))
     (possible : (x : X) → FitsLength (play x).interaction.length → (play x).admitted → IsSentWherePossible (play x) (sides x))
     (reasons : (x : X) → (play x).admitted → RefuseForOneReason (sides x)) where
-  module _ (script : Run X F EF S U D) (sent : List (Value F EF)) (admitted : AreAdmitted play script.steps) where
+  module _ (script : Run X F EF S) (sent : List (Value F EF)) (admitted : AreAdmitted play script.steps) where
     -- the state of a prover after a prefix
     abbrev stands : List X → List (Value F EF) → Driving S
     stands front values = driving_after rules play (with_steps script front values) (runs.wires play front values)
@@ -105,7 +105,7 @@ module _ {X S Symbol I F EF O Ac U D : Type 0} (rules : Rules S Symbol I F EF O 
         let there = stands script.steps t.values in
         (r.place ∙ sym t.place, end-refusal here e refl (end-read here e r.refuses) ∙ sym (end-refusal there f refl (end-read there f t.refuses)))
 
-  pub provings-one_fault : ProvingsTellOneFault U D rules play sides
+  pub provings-one_fault : ProvingsTellOneFault rules play sides
   provings-one_fault script sent admitted =
       one-fault (rules.alphabet.is_too_long (length (seed rules play script)))
       (RefusesToProveStep rules play sides script sent) (RefusesToProveEnd rules play script sent)

@@ -42,10 +42,10 @@ first-handed Sent Is Rest [] h = absurd h
 first-handed Sent Is Rest (v ∷ values) h = (h.0, tt)
 first-handed _ Is Rest values h = tt
 
-module _ {X S Symbol I F EF O Ac U D : Type 0} (rules : Rules S Symbol I F EF O Ac) (play : X → Play S Symbol F EF O) where
+module _ {X S Symbol I F EF O Ac : Type 0} (rules : Rules S Symbol I F EF O Ac) (play : X → Play S Symbol F EF O) where
   -- The first i steps were played, and j of the values that the prover is handed were used. The bytes written, the
   -- witnesses found and the challenges drawn are those of this prefix, and the driver stands after it.
-  pub record Proves (script : Run X F EF S U D) (sent : List (Value F EF)) (i j : ℕ) (now : Driving S)
+  pub record Proves (script : Run X F EF S) (sent : List (Value F EF)) (i j : ℕ) (now : Driving S)
       (witnesses carried : List F) (drawn : List (Challenge F EF)) : Type 0 where
     pub before : List X
     pub values : List (Value F EF)
@@ -60,7 +60,7 @@ module _ {X S Symbol I F EF O Ac U D : Type 0} (rules : Rules S Symbol I F EF O 
     pub carried_is : all_witnesses carried ≡ runs.carried play before values
     pub drawn_is : drawn ≡ runs.challenges play before values (seeded rules play script)
 
-  pub proves-start : (script : Run X F EF S U D) (sent : List (Value F EF)) (now : Driving S) →
+  pub proves-start : (script : Run X F EF S) (sent : List (Value F EF)) (now : Driving S) →
       now ≡ driving_after rules play (with_steps script [] []) [] →
       (rules.alphabet.is_too_long (length (seed rules play script)) → ⊥) →
       AreHanded play script.steps sent → Proves script sent 0 0 now [] [] []
@@ -80,7 +80,7 @@ module _ {X S Symbol I F EF O Ac U D : Type 0} (rules : Rules S Symbol I F EF O 
         drawn_is = refl;
       }
 
-  pub proves-on : (script : Run X F EF S U D) (sent : List (Value F EF)) (i j k : ℕ) (here there : Driving S)
+  pub proves-on : (script : Run X F EF S) (sent : List (Value F EF)) (i j k : ℕ) (here there : Driving S)
       (witnesses carried : List F) (drawn : List (Challenge F EF)) (x : X) (given : Value F EF) (w : Option F)
       (t : Option (Challenge F EF)) → drop i script.steps ≡ x ∷ drop (i + 1) script.steps →
       drop j sent ≡ if_sent (play x).place given ++ drop k sent →
@@ -114,7 +114,7 @@ module _ {X S Symbol I F EF O Ac U D : Type 0} (rules : Rules S Symbol I F EF O 
       }
 
   -- the next step is handed the value that it takes
-  pub proves-next : (script : Run X F EF S U D) (sent : List (Value F EF)) (i j : ℕ) (now : Driving S)
+  pub proves-next : (script : Run X F EF S) (sent : List (Value F EF)) (i j : ℕ) (now : Driving S)
       (witnesses carried : List F) (drawn : List (Challenge F EF)) (x : X) →
       drop i script.steps ≡ x ∷ drop (i + 1) script.steps → Proves script sent i j now witnesses carried drawn →
       StartsHanded (play x).place (play x).IsHanded (drop j sent)
@@ -124,7 +124,7 @@ module _ {X S Symbol I F EF O Ac U D : Type 0} (rules : Rules S Symbol I F EF O 
 
   -- ---- a step is refused
 
-  pub proves-refused : (sides : X → Sides S F EF) (script : Run X F EF S U D) (sent : List (Value F EF)) (i j : ℕ) (here there : Driving S)
+  pub proves-refused : (sides : X → Sides S F EF) (script : Run X F EF S) (sent : List (Value F EF)) (i j : ℕ) (here there : Driving S)
       (witnesses carried : List F) (drawn : List (Challenge F EF)) (x : X) (given : Value F EF)
       (unused : List (Value F EF)) (e : TranscriptError) → drop i script.steps ≡ x ∷ drop (i + 1) script.steps →
       drop j sent ≡ if_sent (play x).place given ++ unused → (play x).IsHanded given →
@@ -150,7 +150,7 @@ module _ {X S Symbol I F EF O Ac U D : Type 0} (rules : Rules S Symbol I F EF O 
 
   -- ---- all steps were played
 
-  module _ (script : Run X F EF S U D) (sent : List (Value F EF)) (i j : ℕ) (now : Driving S) (witnesses carried : List F)
+  module _ (script : Run X F EF S) (sent : List (Value F EF)) (i j : ℕ) (now : Driving S) (witnesses carried : List F)
       (drawn : List (Challenge F EF)) (past : length script.steps ≤ i)
       (f : Proves script sent i j now witnesses carried drawn) where
     all_played : f.before ≡ script.steps

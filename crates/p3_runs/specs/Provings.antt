@@ -25,17 +25,17 @@ module _ {X S Symbol F EF O : Type 0} (play : X → Play S Symbol F EF O) where
   abbrev pub AreHanded : List X → List (Value F EF) → Type 0
   AreHanded steps values = AreAmong (λ x. (play x).place) (λ x. (play x).IsHanded) steps values
 
-module _ {X S Symbol I F EF O Ac U D : Type 0} (rules : Rules S Symbol I F EF O Ac) (play : X → Play S Symbol F EF O) where
+module _ {X S Symbol I F EF O Ac : Type 0} (rules : Rules S Symbol I F EF O Ac) (play : X → Play S Symbol F EF O) where
   -- The run of a prover that is handed these values. It is finished and plays the whole pattern, its steps have these
   -- values, and each witness is the least one that passes.
-  pub record IsProverRun (run : Run X F EF S U D) (sent : List (Value F EF)) : Type 0 where
+  pub record IsProverRun (run : Run X F EF S) (sent : List (Value F EF)) : Type 0 where
     pub finished : IsFinished rules play run
     pub whole : IsWhole rules play run
     pub handed : sent ≡ runs.handed play run.steps run.values
     pub least : AreLeast rules play run
 
   -- The end is refused: all steps were played, and steps of the pattern are left.
-  pub record RefusesToProveEnd (script : Run X F EF S U D) (sent : List (Value F EF)) (position : ℕ)
+  pub record RefusesToProveEnd (script : Run X F EF S) (sent : List (Value F EF)) (position : ℕ)
       (e : TranscriptError) : Type 0 where
     pub place : position ≡ length script.steps
     pub values : List (Value F EF)
@@ -47,10 +47,10 @@ module _ {X S Symbol I F EF O Ac U D : Type 0} (rules : Rules S Symbol I F EF O 
 
 -- ---- where and why a prover refuses, by its refusals of each step
 
-module _ {X S Symbol I F EF O Ac U D : Type 0} (rules : Rules S Symbol I F EF O Ac) (play : X → Play S Symbol F EF O)
+module _ {X S Symbol I F EF O Ac : Type 0} (rules : Rules S Symbol I F EF O Ac) (play : X → Play S Symbol F EF O)
     (sides : X → Sides S F EF) where
   -- A step is refused. It comes with this value after a finished prefix, each of whose witnesses is the least.
-  pub record RefusesToProveStep (script : Run X F EF S U D) (sent : List (Value F EF)) (position : ℕ)
+  pub record RefusesToProveStep (script : Run X F EF S) (sent : List (Value F EF)) (position : ℕ)
       (e : TranscriptError) : Type 0 where
     pub before : List X
     pub step : X
@@ -69,7 +69,7 @@ module _ {X S Symbol I F EF O Ac U D : Type 0} (rules : Rules S Symbol I F EF O 
         (driving_after rules play (with_steps script before values) (runs.wires play before values)) e after
 
   -- the seed is refused, or a step, or the end
-  abbrev pub RefusesToProve : Run X F EF S U D → List (Value F EF) → ℕ → TranscriptError → Type 0
+  abbrev pub RefusesToProve : Run X F EF S → List (Value F EF) → ℕ → TranscriptError → Type 0
   RefusesToProve script sent position e =
       ((position ≡ 0) × RefusesStart (rules.alphabet.is_too_long (length (seed rules play script))) e)
       ⊎ RefusesToProveStep script sent position e ⊎ RefusesToProveEnd rules play script sent position e
@@ -85,10 +85,10 @@ where_carried _ xs = []
 abbrev pub StartsHanded : {V : Type 0} → Place → (V → Type 0) → List V → Type 0
 StartsHanded place Is values = FirstIs place Is (λ _. Unit {0}) values
 
-module _ {X S Symbol I F EF O Ac U D : Type 0} (rules : Rules S Symbol I F EF O Ac) (play : X → Play S Symbol F EF O) where
+module _ {X S Symbol I F EF O Ac : Type 0} (rules : Rules S Symbol I F EF O Ac) (play : X → Play S Symbol F EF O) where
   -- This is the run of a prover that is handed these values, with these bytes, witnesses, carried witnesses, challenges
   -- and final challenger.
-  pub record IsProverOutcome (run : Run X F EF S U D) (sent : List (Value F EF)) (narg : List ℕ)
+  pub record IsProverOutcome (run : Run X F EF S) (sent : List (Value F EF)) (narg : List ℕ)
       (witnesses carried : List F) (drawn : List (Challenge F EF)) (end : S) : Type 0 where
     pub is_run : IsProverRun rules play run sent
     pub narg_is : narg ≡ wire rules play run
@@ -98,7 +98,7 @@ module _ {X S Symbol I F EF O Ac U D : Type 0} (rules : Rules S Symbol I F EF O 
     pub end_is : end ≡ last rules play run
 
   -- The result of a prover for a script with these handed values: they have a run, and the result is that run's.
-  pub record IsProved (script : Run X F EF S U D) (sent : List (Value F EF)) (narg : List ℕ) (witnesses carried : List F)
+  pub record IsProved (script : Run X F EF S) (sent : List (Value F EF)) (narg : List ℕ) (witnesses carried : List F)
       (drawn : List (Challenge F EF)) (end : S) : Type 0 where
     pub values : List (Value F EF)
     pub outcome : IsProverOutcome (with_steps script script.steps values) sent narg witnesses carried drawn end

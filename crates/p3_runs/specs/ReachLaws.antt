@@ -26,8 +26,8 @@ module _ {X S Symbol F EF O : Type 0} (play : X → Play S Symbol F EF O) where
   all-canonical canonical (x ∷ front) later fit =
       (canonical x fit.0.fits.carried, all-canonical canonical front later fit.1)
 
-module _ {X S Symbol I F EF O Ac U D : Type 0} (rules : Rules S Symbol I F EF O Ac) (play : X → Play S Symbol F EF O)
-    (script : Run X F EF S U D) (bytes : List ℕ) (carried : List F) where
+module _ {X S Symbol I F EF O Ac : Type 0} (rules : Rules S Symbol I F EF O Ac) (play : X → Play S Symbol F EF O)
+    (script : Run X F EF S) (bytes : List ℕ) (carried : List F) where
   -- The bytes and the carried witnesses begin with those of a finished prefix, and these are left after it.
   pub record Reaches (front : List X) (values : List (Value F EF)) (left : List ℕ) (unused : List (Value F EF))
       : Type 0 where

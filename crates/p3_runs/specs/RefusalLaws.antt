@@ -100,15 +100,15 @@ module _ {X S Symbol F EF O : Type 0} (play : X → Play S Symbol F EF O) where
       (record { is_next = next; fits = run.0; short = run.1; gives = run.2; chosen = chosen.0 })
   step-memory sides x later (v ∷ more) here there given unused unspent e law handed (inr halts) next run chosen hands = halts.0
 
-module _ {X S Symbol I F EF O Ac U D : Type 0} (rules : Rules S Symbol I F EF O Ac) (play : X → Play S Symbol F EF O) where
+module _ {X S Symbol I F EF O Ac : Type 0} (rules : Rules S Symbol I F EF O Ac) (play : X → Play S Symbol F EF O) where
   -- The values that a prover is handed begin with those of a finished prefix, and these are left after it.
-  pub record ReachesSent (script : Run X F EF S U D) (sent : List (Value F EF)) (front : List X)
+  pub record ReachesSent (script : Run X F EF S) (sent : List (Value F EF)) (front : List X)
       (values unused : List (Value F EF)) : Type 0 where
     pub finished : IsFinished rules play (with_steps script front values)
     pub least : AreLeast rules play (with_steps script front values)
     pub handed : sent ≡ runs.handed play front values ++ unused
 
-  goes-on_sent : (script : Run X F EF S U D) (sent : List (Value F EF)) (front later : List X)
+  goes-on_sent : (script : Run X F EF S) (sent : List (Value F EF)) (front later : List X)
       (done values unused unspent : List (Value F EF)) → AreDetermined play front →
       ReachesSent script sent front done unused → ReachesSent script sent (front ++ later) values unspent →
       GoesOnSent play front later done values (seeded rules play script) unused unspent
@@ -117,7 +117,7 @@ module _ {X S Symbol I F EF O Ac U D : Type 0} (rules : Rules S Symbol I F EF O 
       short.least long.finished.finishes long.least (cc (short.handed, long.handed))
 
   -- a prefix has only these values, and only these are left after it
-  pub one-sent : (script : Run X F EF S U D) (sent : List (Value F EF)) (front : List X)
+  pub one-sent : (script : Run X F EF S) (sent : List (Value F EF)) (front : List X)
       (values others unused unspent : List (Value F EF)) → AreDetermined play front →
       ReachesSent script sent front values unused → ReachesSent script sent front others unspent →
       (others ≡ values) × (unused ≡ unspent)
@@ -127,7 +127,7 @@ module _ {X S Symbol I F EF O Ac U D : Type 0} (rules : Rules S Symbol I F EF O 
       let none = no_values-left play on.more _ on.finishes in (rw (none, append-nil) at on.split, on.rest)
 
   -- a step within a longer prefix is refused only when out of memory
-  pub passed-sent : (sides : X → Sides S F EF) (script : Run X F EF S U D) (sent : List (Value F EF)) (front : List X) (x : X) (later : List X)
+  pub passed-sent : (sides : X → Sides S F EF) (script : Run X F EF S) (sent : List (Value F EF)) (front : List X) (x : X) (later : List X)
       (done values unused unspent : List (Value F EF)) (given : Value F EF) (there : Driving S) (e : TranscriptError) →
       AreDetermined play front → AreRefusedForMemory play sides front → (play x).admitted → (play x).IsHanded given →
       ReachesSent script sent front done (if_sent (play x).place given ++ unused) →
@@ -143,7 +143,7 @@ module _ {X S Symbol I F EF O Ac U D : Type 0} (rules : Rules S Symbol I F EF O 
       handed refuses (refl, front-next rules play script front x later values long.finished) on.finishes on.chosen
       on.rest
 
-  step-never : (sides : X → Sides S F EF) (script : Run X F EF S U D) (sent : List (Value F EF)) (position : ℕ) (e : TranscriptError) →
+  step-never : (sides : X → Sides S F EF) (script : Run X F EF S) (sent : List (Value F EF)) (position : ℕ) (e : TranscriptError) →
       AreDetermined play script.steps → AreRefusedForMemory play sides script.steps → runs.AreAdmitted play script.steps →
       RefusesToProveStep rules play sides script sent position e → (values : List (Value F EF)) →
       IsProverRun rules play (with_steps script script.steps values) sent → e ≡ OutOfMemory
@@ -159,7 +159,7 @@ module _ {X S Symbol I F EF O Ac U D : Type 0} (rules : Rules S Symbol I F EF O 
       (subst (λ l. ReachesSent script sent l values []) r.steps whole) r.refuses
 
   -- Where a prover refuses, except when out of memory, no values are the script's.
-  pub refused-never : (sides : X → Sides S F EF) (script : Run X F EF S U D) (sent : List (Value F EF)) (position : ℕ) (e : TranscriptError) →
+  pub refused-never : (sides : X → Sides S F EF) (script : Run X F EF S) (sent : List (Value F EF)) (position : ℕ) (e : TranscriptError) →
       AreDetermined play script.steps → AreRefusedForMemory play sides script.steps → runs.AreAdmitted play script.steps →
       RefusesToProve rules play sides script sent position e →
       (e ≡ OutOfMemory → ⊥) → (values : List (Value F EF)) →

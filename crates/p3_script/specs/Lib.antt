@@ -1,7 +1,8 @@
 pub mod Accepting
-pub mod Draws
+pub mod Alike
 pub mod GroupDraws
 pub mod GroupLaws
+pub mod GroupSteps
 pub mod OneRun
 pub mod ScriptLaws
 pub mod ScriptRefusals

@@ -6,14 +6,14 @@ use Rattle.p3_script.specs.declared.steps.Step as script
 
 -- At most one list of values has a finished run with these bytes and carried witnesses. The run is at the steps of a
 -- script, under its separator and from its challenger. Any two such runs are equal.
-abbrev pub HaveOneRun : {X S Symbol I F EF O Ac : Type 0} (U D : Type 0) → Rules S Symbol I F EF O Ac →
+abbrev pub HaveOneRun : {X S Symbol I F EF O Ac : Type 0} → Rules S Symbol I F EF O Ac →
     (X → Play S Symbol F EF O) → Type 0
-HaveOneRun {X} {S} {Symbol} {I} {F} {EF} U D rules play =
-    (run : Run X F EF S U D) (bytes : List ℕ) (carried : List F) (values others : List (Value F EF)) →
+HaveOneRun {X} {S} {Symbol} {I} {F} {EF} rules play =
+    (run : Run X F EF S) (bytes : List ℕ) (carried : List F) (values others : List (Value F EF)) →
     IsProof rules play (with_steps run run.steps values) bytes carried →
     IsProof rules play (with_steps run run.steps others) bytes carried → values ≡ others
 
 module _ {S Symbol I F EF O Ac : Type 0} (Su U C K D G It St Sy : Type 0) (rules : Rules S Symbol I F EF O Ac) where
   -- each proof of a script has one run
   abbrev pub ProofsHaveOneRun : Type 0
-  ProofsHaveOneRun = HaveOneRun U D rules (λ (x : script.Step Su F EF U O C K Ac D G It St Sy). play_of rules x)
+  ProofsHaveOneRun = HaveOneRun rules (λ (x : script.Step Su F EF U O C K Ac D G It St Sy). play_of rules x)

@@ -37,10 +37,10 @@ module _ {S Symbol I F EF O Ac : Type 0} (Su U C K D G It St Sy : Type 0) (rules
 
   -- whole scripts are refused for one fault, whether to a verifier or to a prover
   abbrev pub ProofsHaveOneFault : Type 0
-  ProofsHaveOneFault = ProofsTellOneFault U D rules
+  ProofsHaveOneFault = ProofsTellOneFault rules
       (λ (x : script.Step Su F EF U O C K Ac D G It St Sy). play_of rules x) (sides_of rules)
 
   abbrev pub ProvingsHaveOneFault : Type 0
   ProvingsHaveOneFault =
-      ProvingsTellOneFault U D rules (λ (x : script.Step Su F EF U O C K Ac D G It St Sy). play_of rules x)
+      ProvingsTellOneFault rules (λ (x : script.Step Su F EF U O C K Ac D G It St Sy). play_of rules x)
       (sides_of rules)

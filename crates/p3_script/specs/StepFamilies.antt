@@ -29,3 +29,12 @@ module _ {Su F EF U O C K Ac D G It St Sy : Type 0} where
   Draws (step.ChallengeUniformBits label width n) = Unit {0}
   Draws (step.ChallengeUniformBitsRejecting label width n accept limit) = Unit {0}
   Draws _ = ⊥
+
+  -- Both sides play the step by one method of theirs. It is a marker, a draw, an element of the extension that both sides
+  -- know, or an opaque value.
+  abbrev pub IsPlayedAlike : script.Step Su F EF U O C K Ac D G It St Sy → Type 0
+  IsPlayedAlike (step.Begin label kind) = Unit {0}
+  IsPlayedAlike (step.End label kind) = Unit {0}
+  IsPlayedAlike (step.ObserveExtension label x) = Unit {0}
+  IsPlayedAlike (step.Opaque label x) = Unit {0}
+  IsPlayedAlike step = Draws step

@@ -2,25 +2,24 @@
 ghost use Rattle.std.specs.Prelude.{◌≡◌, ◌≤◌, [], ◌∷◌, IsTrue, IfErr, IfOk, OnOk};
 ghost use Rattle.p3_driver_core.specs.Bound.{bound_value, bound_values};
 ghost use Rattle.p3_driver_core.specs.{Rejecting.drawn_rejecting, Transcripts.uniform_bits_step};
-ghost use Rattle.p3_fs_core.specs.declared.step.{Kind.TheVariants.Challenge, Length.TheVariants.Fixed};
+ghost use Rattle.p3_fs_core.specs.declared.step.Length.TheVariants.{Fixed};
 ghost use Rattle.p3_drivers.specs.Drivers.{driving_of, Keeps};
 ghost use Rattle.p3_runs.specs.Stepping.{Halts};
-ghost use Rattle.p3_script.specs.Draws.{DrawsStep};
-ghost use Rattle.p3_script.specs.declared.steps.Step.TheVariants as step;
+ghost use Rattle.p3_script.specs.{Alike.{DrawsAccepted, PlaysAlike}, Scripts.play_of, StepFamilies.Draws};
 
 use crate::accept::AcceptRule;
 use crate::groups::StepGroup;
-use crate::steps::Drawn;
+use crate::steps::{Drawn, Step};
 use crate::suite::{Meaning, Suite};
 use p3_challenger_core::Sponge;
-use p3_codecs::{Codec, ExtensionFieldCodec};
 use p3_driver_core::TranscriptBound;
 use p3_drivers::{DriverState, Tape};
-use p3_fs_core::{Declared, Label, TranscriptError};
+use p3_fs_core::{Label, TranscriptError};
 use p3_symmetric::DigestHasher;
 use std::alloc::Global;
 
-// The values alone, of a list that the transcript has bound. Where memory for them is refused, the driver halts.
+/// Returns the values alone, of a list that the transcript has bound. Where memory for them is refused, the driver
+/// halts. Not in the Rust crate.
 pub fn unbound<T: Copy, C: Sponge, U, D: DigestHasher, P: Tape>(
     alloc: Global,
     driver: &mut DriverState<C, U, D, P>,
@@ -80,125 +79,162 @@ fn unbound_one<T: Copy + Drop, C: Sponge, U, D: DigestHasher, P: Tape>(
     }
 }
 
-/// Draws one scalar.
-pub fn draw_scalar<S: Suite, P: Tape>(
+// Plays a draw.
+pub(crate) fn draw_step<S: Suite, P: Tape>(
+    alloc: Global,
+    driver: &mut DriverState<S::Challenger, S::Unit, S::Digest, P>,
+    step: &Step<S>,
+) -> Result<Option<Drawn<S>>, TranscriptError>
+    requires family { Draws step.now }
+    requires admitted { (play_of (⟦<S as Meaning>⟧.rules S.Field.DIMENSION) step.now).admitted }
+    ensures { PlaysAlike (⟦<S as Meaning>⟧.rules S.Field.DIMENSION) S.Challenger.state P.bytes
+        step.now driver.old result driver.new }
+{
+    match step {
+        Step::ChallengeScalar { label } => draw_scalar(alloc, driver, *label),
+        Step::ChallengeScalars { label, n } => draw_scalars(alloc, driver, *label, *n),
+        Step::ChallengeExtension { label } => draw_extension(alloc, driver, *label),
+        Step::ChallengeExtensions { label, n } => draw_extensions(alloc, driver, *label, *n),
+        Step::ChallengeExtensionsRejecting {
+            label,
+            n,
+            accept,
+            limit,
+        } => draw_extensions_rejecting(alloc, driver, *label, *n, accept, *limit),
+        Step::ChallengeBits { label, width, n } => draw_bits(alloc, driver, *label, *width, *n),
+        Step::ChallengeUniformBits { label, width, n } => {
+            draw_uniform_bits(alloc, driver, *label, *width, *n)
+        }
+        Step::ChallengeUniformBitsRejecting {
+            label,
+            width,
+            n,
+            accept,
+            limit,
+        } => draw_uniform_bits_rejecting(alloc, driver, *label, *width, *n, accept, *limit),
+        _ => unreachable!(),
+    }
+}
+
+// Draws one scalar.
+fn draw_scalar<S: Suite, P: Tape>(
     alloc: Global,
     driver: &mut DriverState<S::Challenger, S::Unit, S::Digest, P>,
     label: Label,
-) -> Result<Drawn<S>, TranscriptError>
+) -> Result<Option<Drawn<S>>, TranscriptError>
     requires { 128 ≤ S.Codec.SECURITY_BITS }
-    ensures { DrawsStep (⟦<S as Meaning>⟧.rules S.Field.DIMENSION) S.Challenger.state P.bytes
-        (step.ChallengeScalar label.entry) driver.old result driver.new }
+    ensures { PlaysAlike (⟦<S as Meaning>⟧.rules S.Field.DIMENSION) S.Challenger.state P.bytes
+        (Step.ChallengeScalar label.entry) driver.old result driver.new }
 {
     let drawn = driver.challenge_scalar::<S::Field, S::Codec>(label)?;
     let values = unbound_one(alloc, driver, drawn)?;
-    Ok(Drawn::Scalars(values))
+    Ok(Some(Drawn::Scalars(values)))
 }
 
-/// Draws `n` scalars.
-pub fn draw_scalars<S: Suite, P: Tape>(
+// Draws `n` scalars.
+fn draw_scalars<S: Suite, P: Tape>(
     alloc: Global,
     driver: &mut DriverState<S::Challenger, S::Unit, S::Digest, P>,
     label: Label,
     n: usize,
-) -> Result<Drawn<S>, TranscriptError>
+) -> Result<Option<Drawn<S>>, TranscriptError>
     requires { 128 ≤ S.Codec.SECURITY_BITS }
-    ensures { DrawsStep (⟦<S as Meaning>⟧.rules S.Field.DIMENSION) S.Challenger.state P.bytes
-        (step.ChallengeScalars label.entry n) driver.old result driver.new }
+    ensures { PlaysAlike (⟦<S as Meaning>⟧.rules S.Field.DIMENSION) S.Challenger.state P.bytes
+        (Step.ChallengeScalars label.entry n) driver.old result driver.new }
 {
     let drawn = driver.challenge_scalars::<S::Field, S::Codec>(label, n)?;
     let values = unbound(alloc, driver, drawn)?;
-    Ok(Drawn::Scalars(values))
+    Ok(Some(Drawn::Scalars(values)))
 }
 
-/// Draws one element of the extension.
-pub fn draw_extension<S: Suite, P: Tape>(
+// Draws one element of the extension.
+fn draw_extension<S: Suite, P: Tape>(
     alloc: Global,
     driver: &mut DriverState<S::Challenger, S::Unit, S::Digest, P>,
     label: Label,
-) -> Result<Drawn<S>, TranscriptError>
+) -> Result<Option<Drawn<S>>, TranscriptError>
     requires { 128 ≤ S.Codec.SECURITY_BITS }
-    ensures { DrawsStep (⟦<S as Meaning>⟧.rules S.Field.DIMENSION) S.Challenger.state P.bytes
-        (step.ChallengeExtension label.entry) driver.old result driver.new }
+    ensures { PlaysAlike (⟦<S as Meaning>⟧.rules S.Field.DIMENSION) S.Challenger.state P.bytes
+        (Step.ChallengeExtension label.entry) driver.old result driver.new }
 {
     let drawn = driver.challenge_extension::<S::Field, S::Extension, S::Codec>(label)?;
     let values = unbound_one(alloc, driver, drawn)?;
-    Ok(Drawn::Extensions(values))
+    Ok(Some(Drawn::Extensions(values)))
 }
 
-/// Draws `n` elements of the extension.
-pub fn draw_extensions<S: Suite, P: Tape>(
+// Draws `n` elements of the extension.
+fn draw_extensions<S: Suite, P: Tape>(
     alloc: Global,
     driver: &mut DriverState<S::Challenger, S::Unit, S::Digest, P>,
     label: Label,
     n: usize,
-) -> Result<Drawn<S>, TranscriptError>
+) -> Result<Option<Drawn<S>>, TranscriptError>
     requires { 128 ≤ S.Codec.SECURITY_BITS }
-    ensures { DrawsStep (⟦<S as Meaning>⟧.rules S.Field.DIMENSION) S.Challenger.state P.bytes
-        (step.ChallengeExtensions label.entry n) driver.old result driver.new }
+    ensures { PlaysAlike (⟦<S as Meaning>⟧.rules S.Field.DIMENSION) S.Challenger.state P.bytes
+        (Step.ChallengeExtensions label.entry n) driver.old result driver.new }
 {
     let drawn = driver.challenge_extensions::<S::Field, S::Extension, S::Codec>(label, n)?;
     let values = unbound(alloc, driver, drawn)?;
-    Ok(Drawn::Extensions(values))
+    Ok(Some(Drawn::Extensions(values)))
 }
 
-/// Draws elements of the extension until the rule has accepted `n` of them.
-pub fn draw_extensions_rejecting<S: Suite, P: Tape>(
+// Draws elements of the extension until the rule has accepted `n` of them.
+fn draw_extensions_rejecting<S: Suite, P: Tape>(
     alloc: Global,
     driver: &mut DriverState<S::Challenger, S::Unit, S::Digest, P>,
     label: Label,
     n: usize,
     accept: &S::Accept,
     limit: u64,
-) -> Result<Drawn<S>, TranscriptError>
+) -> Result<Option<Drawn<S>>, TranscriptError>
     requires { 128 ≤ S.Codec.SECURITY_BITS }
-    ensures { DrawsStep (⟦<S as Meaning>⟧.rules S.Field.DIMENSION) S.Challenger.state P.bytes
-        (step.ChallengeExtensionsRejecting label.entry n accept.now limit) driver.old result
+    ensures { PlaysAlike (⟦<S as Meaning>⟧.rules S.Field.DIMENSION) S.Challenger.state P.bytes
+        (Step.ChallengeExtensionsRejecting label.entry n accept.now limit) driver.old result
         driver.new }
 {
     let drawn = accepted_extensions::<S, S::Accept, P>(driver, label, n, accept, limit)?;
     let values = unbound(alloc, driver, drawn)?;
-    Ok(Drawn::Extensions(values))
+    Ok(Some(Drawn::Extensions(values)))
 }
 
-/// Draws `n` numbers of `width` bits.
-pub fn draw_bits<S: Suite, P: Tape>(
+// Draws `n` numbers of `width` bits.
+fn draw_bits<S: Suite, P: Tape>(
     alloc: Global,
     driver: &mut DriverState<S::Challenger, S::Unit, S::Digest, P>,
     label: Label,
     width: usize,
     n: usize,
-) -> Result<Drawn<S>, TranscriptError>
+) -> Result<Option<Drawn<S>>, TranscriptError>
     requires has { IsTrue S.Group.HAS_POW }
     requires within { width ≤ S.Group.most_bits }
-    ensures { DrawsStep (⟦<S as Meaning>⟧.rules S.Field.DIMENSION) S.Challenger.state P.bytes
-        (step.ChallengeBits label.entry width n) driver.old result driver.new }
+    ensures { PlaysAlike (⟦<S as Meaning>⟧.rules S.Field.DIMENSION) S.Challenger.state P.bytes
+        (Step.ChallengeBits label.entry width n) driver.old result driver.new }
 {
     let drawn = S::Group::challenge_bits(driver, label, width, n)?;
     let values = unbound(alloc, driver, drawn)?;
-    Ok(Drawn::Bits(values))
+    Ok(Some(Drawn::Bits(values)))
 }
 
-/// Draws `n` numbers of `width` uniform bits.
-pub fn draw_uniform_bits<S: Suite, P: Tape>(
+// Draws `n` numbers of `width` uniform bits.
+fn draw_uniform_bits<S: Suite, P: Tape>(
     alloc: Global,
     driver: &mut DriverState<S::Challenger, S::Unit, S::Digest, P>,
     label: Label,
     width: usize,
     n: usize,
-) -> Result<Drawn<S>, TranscriptError>
+) -> Result<Option<Drawn<S>>, TranscriptError>
     requires has { IsTrue S.Group.HAS_UNIFORM }
     requires within { width ≤ S.Group.most_bits }
-    ensures { DrawsStep (⟦<S as Meaning>⟧.rules S.Field.DIMENSION) S.Challenger.state P.bytes
-        (step.ChallengeUniformBits label.entry width n) driver.old result driver.new }
+    ensures { PlaysAlike (⟦<S as Meaning>⟧.rules S.Field.DIMENSION) S.Challenger.state P.bytes
+        (Step.ChallengeUniformBits label.entry width n) driver.old result driver.new }
 {
     let drawn = S::Group::challenge_uniform_bits(driver, label, width, n)?;
     let values = unbound(alloc, driver, drawn)?;
-    Ok(Drawn::Bits(values))
+    Ok(Some(Drawn::Bits(values)))
 }
 
-/// Draws numbers of `width` uniform bits until the rule has accepted `n` of them.
-pub fn draw_uniform_bits_rejecting<S: Suite, P: Tape>(
+// Draws numbers of `width` uniform bits until the rule has accepted `n` of them.
+fn draw_uniform_bits_rejecting<S: Suite, P: Tape>(
     alloc: Global,
     driver: &mut DriverState<S::Challenger, S::Unit, S::Digest, P>,
     label: Label,
@@ -206,16 +242,16 @@ pub fn draw_uniform_bits_rejecting<S: Suite, P: Tape>(
     n: usize,
     accept: &S::Accept,
     limit: u64,
-) -> Result<Drawn<S>, TranscriptError>
+) -> Result<Option<Drawn<S>>, TranscriptError>
     requires has { IsTrue S.Group.HAS_UNIFORM }
     requires within { width ≤ S.Group.most_bits }
-    ensures { DrawsStep (⟦<S as Meaning>⟧.rules S.Field.DIMENSION) S.Challenger.state P.bytes
-        (step.ChallengeUniformBitsRejecting label.entry width n accept.now limit) driver.old result
+    ensures { PlaysAlike (⟦<S as Meaning>⟧.rules S.Field.DIMENSION) S.Challenger.state P.bytes
+        (Step.ChallengeUniformBitsRejecting label.entry width n accept.now limit) driver.old result
         driver.new }
 {
     let drawn = accepted_bits::<S, S::Accept, P>(driver, label, width, n, accept, limit)?;
     let values = unbound(alloc, driver, drawn)?;
-    Ok(Drawn::Bits(values))
+    Ok(Some(Drawn::Bits(values)))
 }
 
 // Draws elements of the extension until the rule has taken so many, as the driver does.
@@ -227,10 +263,8 @@ fn accepted_extensions<S: Suite, A: AcceptRule<S::Extension>, P: Tape>(
     limit: u64,
 ) -> Result<Vec<TranscriptBound<S::Extension>>, TranscriptError>
     requires { 128 ≤ S.Codec.SECURITY_BITS }
-    ensures { let codec = ⟦<ExtensionFieldCodec<S::Field, S::Extension, S::Codec> as Codec<S::Challenger, S::Extension>>⟧ in
-        Keeps S.Challenger.state P.bytes (drawn_rejecting {Symbol = S.Challenger.Symbol}
-        (⟦<S::Extension as Declared<S::Field, S::Digest>>⟧.step Challenge label.now (Fixed n))
-        codec.sampling (A.rule accept.now) limit n) driver.old bound_values result driver.new }
+    ensures { DrawsAccepted (⟦<S as Meaning>⟧.rules S.Field.DIMENSION) S.Challenger.state P.bytes
+        label.now n (A.rule accept.now) limit driver.old bound_values result driver.new }
 {
     let asked = |candidate: &S::Extension, kept: &[S::Extension]| -> bool
         ensures { result ≡ A.rule accept.entry.now candidate.now kept.now }

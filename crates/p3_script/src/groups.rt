@@ -1,17 +1,17 @@
 //! The optional groups of steps: bits and proofs of work, and uniform bits.
 ghost use Rattle.std.specs.Prelude.{◌≡◌, ◌≤◌, ℕ, Bool, IsTrue, IsErr};
 ghost use Rattle.p3_challenger_core.specs.{Observation.Observation, Reading.IsPrefixFree, Sampling.Sampling};
-ghost use Rattle.p3_driver_core.specs.{Verifying.{ChecksAndKeeps, ReceivesWork}, Effects.drawing_list};
-ghost use Rattle.p3_driver_core.specs.Working.{RefusesToCheck, RefusesToGrind, sent_work, work_of};
-ghost use Rattle.p3_driver_core.specs.{Bound.bound_values, Transcripts.{uniform_bits_step, PlaysOrRefuses, bits_step}};
+ghost use Rattle.p3_driver_core.specs.{Verifying.ChecksAndKeeps, Effects.drawing_list};
+ghost use Rattle.p3_driver_core.specs.Working.{RefusesToCheck, RefusesToGrind, work_of};
+ghost use Rattle.p3_driver_core.specs.{Bound.bound_values, Transcripts.{uniform_bits_step, bits_step}};
 ghost use Rattle.p3_driver_core.specs.Rejecting.{drawing_rejecting, ComputesOfValues, drawn_rejecting, Rule};
-ghost use Rattle.p3_driver_core.specs.{Proving.{GrindsAndWrites, GrindsAndKeeps}, Reads.received_work};
-ghost use Rattle.p3_drivers.specs.Drivers.{driving_of, proving_of, verifying_of, Keeps};
+ghost use Rattle.p3_drivers.specs.Drivers.{driving_of, verifying_of, Keeps};
 ghost use Rattle.p3_fs_core.specs.{Scalar.encoding, Steps.Step};
-ghost use Rattle.p3_step_laws.specs.{Completeness.{CompletesWork, CompletesCarriedWork}, ReadBack.OnlyReads};
-ghost use Rattle.p3_step_laws.specs.{ReadBack.AnyValue, OneReason.{TellsLimits, TellOneReason, HasOneReason}};
+ghost use Rattle.p3_step_laws.specs.Completeness.{CompletesWork, CompletesCarriedWork};
+ghost use Rattle.p3_step_laws.specs.OneReason.{TellsLimits, TellOneReason, HasOneReason};
 ghost use Rattle.p3_runs.specs.Sides.{RefusesToReadWork};
 ghost use Rattle.p3_script.specs.GroupDraws.{DrawsAndFeeds};
+ghost use Rattle.p3_script.specs.GroupSteps.{PlaysOnDriver, SendsWork, FindsWork, ReadsWork, OnlyReadsWork};
 ghost use Rattle.p3_driver_core.specs.Meanings as meaning;
 
 mod all_steps;
@@ -108,11 +108,9 @@ pub trait StepGroup<C: Sponge, F: ScalarField> {
         requires has { IsTrue HAS_UNIFORM }
         requires within { width ≤ most_bits }
         requires callable { R.IsAlwaysCallable accept.now }
-        ensures played { (rule : Rule ℕ) → ComputesOfValues R.Fn accept.now rule → PlaysOrRefuses
-            (drawn_rejecting {Symbol = C.Symbol}
-            (uniform_bits_step label.now width (Length.Fixed n)) (uniform_draws width) rule limit n)
-            (driving_of C.state P.bytes driver.old).transcript bound_values result
-            (driving_of C.state P.bytes driver.new).transcript }
+        ensures played { (rule : Rule ℕ) → ComputesOfValues R.Fn accept.now rule → PlaysOnDriver
+            C.state (drawn_rejecting {Symbol = C.Symbol} (uniform_bits_step label.now width
+            (Length.Fixed n)) (uniform_draws width) rule limit n) driver.old bound_values result driver.new }
         ensures kept { (driving_of C.state P.bytes driver.new).bytes
             ≡ (driving_of C.state P.bytes driver.old).bytes };
 
@@ -127,9 +125,8 @@ pub trait StepGroup<C: Sponge, F: ScalarField> {
         requires has { IsTrue HAS_POW }
         requires within { bits ≤ most_bits }
         ensures { let step = ⟦<F as Declared<F, D>>⟧.step Kind.Pow label.now (Length.Fixed bits) in
-            GrindsAndWrites (work_of step F.residues before_witness witness bit_draws bits)
-            (encoding F.residues F.bit_length) may_run_out
-            (proving_of C.state prover.old) result (proving_of C.state prover.new) };
+            SendsWork C.state (work_of step F.residues before_witness witness bit_draws bits)
+            (encoding F.residues F.bit_length) may_run_out prover.old result prover.new };
 
     /// Searches for a witness and returns it, as the prover.
     ///
@@ -142,9 +139,8 @@ pub trait StepGroup<C: Sponge, F: ScalarField> {
         requires has { IsTrue HAS_POW }
         requires within { bits ≤ most_bits }
         ensures { let step = ⟦<F as Declared<F, D>>⟧.step Kind.Pow label.now (Length.Fixed bits) in
-            GrindsAndKeeps (work_of step F.residues before_witness witness bit_draws bits)
-            may_run_out
-            (proving_of C.state prover.old) (λ x. x) result (proving_of C.state prover.new) };
+            FindsWork C.state (work_of step F.residues before_witness witness bit_draws bits)
+            may_run_out prover.old result prover.new };
 
     /// Reads a witness and checks it, as the verifier.
     ///
@@ -157,9 +153,8 @@ pub trait StepGroup<C: Sponge, F: ScalarField> {
         requires has { IsTrue HAS_POW }
         requires within { bits ≤ most_bits }
         ensures { let step = ⟦<F as Declared<F, D>>⟧.step Kind.Pow label.now (Length.Fixed bits) in
-            ReceivesWork (work_of step F.residues before_witness witness bit_draws bits)
-            (encoding F.residues F.bit_length)
-            (verifying_of C.state verifier.old) result (verifying_of C.state verifier.new) };
+            ReadsWork C.state (work_of step F.residues before_witness witness bit_draws bits)
+            (encoding F.residues F.bit_length) verifier.old result verifier.new };
 
     /// Checks a witness that the verifier's caller supplies.
     ///
@@ -189,9 +184,8 @@ pub trait StepGroup<C: Sponge, F: ScalarField> {
             CompletesWork (work_of step F.residues before_witness witness bit_draws bits)
             (encoding F.residues F.bit_length) x }
         ensures encoded { IsTrue HAS_POW → (step : Step) (bits : ℕ) →
-            let work = work_of step F.residues before_witness witness bit_draws bits in
-            OnlyReads (received_work work (encoding F.residues F.bit_length)) AnyValue
-            (sent_work work (encoding F.residues F.bit_length)) }
+            OnlyReadsWork (work_of step F.residues before_witness witness bit_draws bits)
+            (encoding F.residues F.bit_length) }
         ensures carried { IsTrue HAS_POW → (step : Step) (bits : ℕ) (x : F) → CompletesCarriedWork
             (work_of step F.residues before_witness witness bit_draws bits) x };
 

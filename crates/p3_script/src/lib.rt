@@ -3,7 +3,8 @@
 #![tactic(auto)]
 
 mod accept;
-pub mod draws;
+mod alike;
+mod draws;
 mod fault;
 mod faults;
 mod groups;
@@ -15,6 +16,8 @@ mod steps;
 mod suite;
 
 pub use accept::{AcceptAll, AcceptRule, Distinct};
+pub use alike::play_alike;
+pub use draws::unbound;
 pub use fault::Fault;
 pub use faults::faults_are_one;
 pub use groups::{BitsPow, Both, Plain, StepGroup};

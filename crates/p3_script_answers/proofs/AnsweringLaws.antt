@@ -74,25 +74,25 @@ pub record Adds {S Symbol F EF O : Type 0} (play : Play S Symbol F EF O) (given 
   pub handed : play.IsHanded given
   pub more : after ≡ before ++ if_sent play.place given
 
-module _ {X S Symbol I F EF O Ac U D : Type 0} (rules : Rules S Symbol I F EF O Ac) (play : X → Play S Symbol F EF O) where
+module _ {X S Symbol I F EF O Ac : Type 0} (rules : Rules S Symbol I F EF O Ac) (play : X → Play S Symbol F EF O) where
   -- the first steps of a script, as a script
-  abbrev pub first_of : Run X F EF S U D → ℕ → Run X F EF S U D
+  abbrev pub first_of : Run X F EF S → ℕ → Run X F EF S
   first_of script n = with_steps script (take n script.steps) []
 
   -- the first steps were played, with all values that were given
-  pub record ProvesFirst (script : Run X F EF S U D) (sent : List (Value F EF)) (i : ℕ) (now : Driving S)
+  pub record ProvesFirst (script : Run X F EF S) (sent : List (Value F EF)) (i : ℕ) (now : Driving S)
       (witnesses carried : List F) (drawn : List (Challenge F EF)) : Type 0 where
     pub proves : Proves rules play (first_of script i) sent i (length sent) now witnesses carried drawn
 
   -- the front that was played is that of the first steps, and it was handed what was given
-  front-is : (script : Run X F EF S U D) (sent : List (Value F EF)) (i : ℕ) (now : Driving S)
+  front-is : (script : Run X F EF S) (sent : List (Value F EF)) (i : ℕ) (now : Driving S)
       (witnesses carried : List F) (drawn : List (Challenge F EF))
       (f : ProvesFirst script sent i now witnesses carried drawn) → f.proves.before ≡ take i script.steps
   front-is script sent i now witnesses carried drawn f =
       sym (append-nil f.proves.before)
       ∙ ap (λ l. f.proves.before ++ l) (sym (none-left script.steps i)) ∙ sym f.proves.split
 
-  all-given : (script : Run X F EF S U D) (sent : List (Value F EF)) (i : ℕ) (now : Driving S)
+  all-given : (script : Run X F EF S) (sent : List (Value F EF)) (i : ℕ) (now : Driving S)
       (witnesses carried : List F) (drawn : List (Challenge F EF))
       (f : ProvesFirst script sent i now witnesses carried drawn) →
       sent ≡ runs.handed play f.proves.before f.proves.values
@@ -100,14 +100,14 @@ module _ {X S Symbol I F EF O Ac U D : Type 0} (rules : Rules S Symbol I F EF O 
       f.proves.hands ∙ ap (λ l. runs.handed play f.proves.before f.proves.values ++ l) (past-self sent)
       ∙ append-nil (runs.handed play f.proves.before f.proves.values)
 
-  first-start : (script : Run X F EF S U D) (now : Driving S) →
+  first-start : (script : Run X F EF S) (now : Driving S) →
       now ≡ driving_after rules play (with_steps script [] []) [] →
       (rules.alphabet.is_too_long (length (seed rules play script)) → ⊥) → ProvesFirst script [] 0 now [] [] []
   first-start script now is fits =
       record { proves = proves-start rules play (first_of script 0) [] now is fits refl }
 
   -- the same of lists that are empty
-  pub first-empty : (script : Run X F EF S U D) (now : Driving S) (sent : List (Value F EF)) (witnesses carried : List F)
+  pub first-empty : (script : Run X F EF S) (now : Driving S) (sent : List (Value F EF)) (witnesses carried : List F)
       (drawn : List (Challenge F EF)) → sent ≡ [] → witnesses ≡ [] → carried ≡ [] → drawn ≡ [] →
       now ≡ driving_after rules play (with_steps script [] []) [] →
       (rules.alphabet.is_too_long (length (seed rules play script)) → ⊥) →
@@ -118,7 +118,7 @@ module _ {X S Symbol I F EF O Ac U D : Type 0} (rules : Rules S Symbol I F EF O 
   first-empty script now [] [] (x ∷ c) d e0 e1 e2 e3 is fits = absurd (cc)
   first-empty script now [] [] [] (x ∷ d) e0 e1 e2 e3 is fits = absurd (cc)
 
-  module _ (script : Run X F EF S U D) (i : ℕ) (x : X) (at : drop i script.steps ≡ x ∷ drop (i + 1) script.steps) where
+  module _ (script : Run X F EF S) (i : ℕ) (x : X) (at : drop i script.steps ≡ x ∷ drop (i + 1) script.steps) where
     -- the step stands last in the script of one step more
     last-at : drop i (take (i + 1) script.steps) ≡ x ∷ drop (i + 1) (take (i + 1) script.steps)
     last-at =
@@ -208,13 +208,13 @@ module _ {X S Symbol I F EF O Ac U D : Type 0} (rules : Rules S Symbol I F EF O 
 
   -- Each list of values that begins with these is refused at this position for this, and where that is not for memory,
   -- it has no run. Where all steps were played, that is these alone.
-  abbrev pub AllAreRefused : (X → Sides S F EF) → Run X F EF S U D → List (Value F EF) → ℕ → TranscriptError → Type 0
+  abbrev pub AllAreRefused : (X → Sides S F EF) → Run X F EF S → List (Value F EF) → ℕ → TranscriptError → Type 0
   AllAreRefused sides script given position e = (later : List (Value F EF)) → (length script.steps ≤ position → later ≡ []) →
       RefusesToProve rules play sides script (given ++ later) position e × ((e ≡ OutOfMemory → ⊥) →
       (values : List (Value F EF)) → IsProverRun rules play (with_steps script script.steps values) (given ++ later) → ⊥)
 
   -- a refusal of the last of the first steps is one of the script's, whatever values come later
-  step-refused : (sides : X → Sides S F EF) (script : Run X F EF S U D) (sent later : List (Value F EF)) (n position : ℕ) (e : TranscriptError) →
+  step-refused : (sides : X → Sides S F EF) (script : Run X F EF S) (sent later : List (Value F EF)) (n position : ℕ) (e : TranscriptError) →
       RefusesToProveStep rules play sides (first_of script n) sent position e →
       RefusesToProveStep rules play sides script (sent ++ later) position e
   step-refused sides script sent later n position e r =
@@ -239,7 +239,7 @@ module _ {X S Symbol I F EF O Ac U D : Type 0} (rules : Rules S Symbol I F EF O 
         refuses = r.refuses;
       }
 
-  module _ (sides : X → Sides S F EF) (script : Run X F EF S U D) (told : AreDetermined play script.steps)
+  module _ (sides : X → Sides S F EF) (script : Run X F EF S) (told : AreDetermined play script.steps)
       (sendable : AreRefusedForMemory play sides script.steps) (may : AreAdmitted play script.steps) where
     -- the seed is refused
     pub seed-refused : (e : TranscriptError) → RefusesStart (rules.alphabet.is_too_long (length (seed rules play script))) e →

@@ -125,7 +125,7 @@ asked-answer play answers position drawn here there None h = record { so = h.com
 asked-answer play answers position drawn here there (Some x) h = record { so = h.comes.0 }
 
 module _ {Su F EF U O C K Ac D G It St Sy P E : Type 0} (rules : Rules St Sy It F EF O Ac)
-    (script : Run (step.Step Su F EF U O C K Ac D G It St Sy) F EF St U D)
+    (script : Run (step.Step Su F EF U O C K Ac D G It St Sy) F EF St)
     (answers : P → ℕ → Bor (List (Drawn Su F EF U O C K Ac D G It St Sy)) →
     Result (Sent Su F EF U O C K Ac D G It St Sy) E → P → Type 0) where
   -- these are the values that it answered from the first state to this one, each at its turn

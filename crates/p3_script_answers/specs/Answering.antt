@@ -13,8 +13,8 @@ use Rattle.p3_script_answers.specs.declared.errors.ProveByError.TheVariants as e
 
 -- It is the turn of this step, which sends a value. The prover has finished a run of the steps before, for which it was
 -- handed these values and drew these challenges.
-pub record IsTurn {X S Symbol I F EF O Ac U D : Type 0} (rules : Rules S Symbol I F EF O Ac) (play : X → Play S Symbol F EF O)
-    (script : Run X F EF S U D) (given : List (Value F EF)) (drawn : List (Challenge F EF)) (position : ℕ) (step : X) :
+pub record IsTurn {X S Symbol I F EF O Ac : Type 0} (rules : Rules S Symbol I F EF O Ac) (play : X → Play S Symbol F EF O)
+    (script : Run X F EF S) (given : List (Value F EF)) (drawn : List (Challenge F EF)) (position : ℕ) (step : X) :
     Type 0 where
   pub before : List X
   pub later : List X
@@ -28,7 +28,7 @@ pub record IsTurn {X S Symbol I F EF O Ac U D : Type 0} (rules : Rules S Symbol 
   pub sends : (play step).place ≡ place.Sent
 
 module _ {Su F EF U O C K Ac D G It St Sy P E : Type 0} (rules : Rules St Sy It F EF O Ac)
-    (script : Run (step.Step Su F EF U O C K Ac D G It St Sy) F EF St U D)
+    (script : Run (step.Step Su F EF U O C K Ac D G It St Sy) F EF St)
     (answers : P → ℕ → Bor (List (Drawn Su F EF U O C K Ac D G It St Sy)) →
     Result (Sent Su F EF U O C K Ac D G It St Sy) E → P → Type 0) where
   -- From one state to another, the caller answers the step whose turn comes after these values, and borrows the earlier

@@ -14,7 +14,7 @@ use Rattle.p3_script.specs.declared.steps.Step as script
 module _ {F EF O Ac : Type 0} (Su U C K D G It S Symbol : Type 0) (r : Rules S Symbol It F EF O Ac) (state : C → S)
     (bind : ScriptSymbolsBind Su U C K D G It S Symbol r) where
   abbrev Script : Type 0
-  Script = Run (script.Step Su F EF U O C K Ac D G It S Symbol) F EF S U D
+  Script = Run (script.Step Su F EF U O C K Ac D G It S Symbol) F EF S
 
   -- a program can hold what an accepted run absorbs
   run-held : (s : Script) (values : List (Value F EF)) (bytes : List ℕ) → HoldsProof r (play_of r) s.steps bytes →

@@ -24,8 +24,8 @@ module _ {X S Symbol F EF O : Type 0} (play : X → Play S Symbol F EF O) where
   held-front IsOwn (suc n) (x ∷ xs) [] h = tt
   held-front IsOwn (suc n) (x ∷ xs) (v ∷ vs) h = (h.0, held-front IsOwn n xs vs h.1)
 
-module _ {X S Symbol I F EF O Ac U D : Type 0} (rules : Rules S Symbol I F EF O Ac) (play : X → Play S Symbol F EF O) where
-  front-finished : (n : ℕ) (x : Run X F EF S U D) → IsFinished rules play x → IsWhole rules play x →
+module _ {X S Symbol I F EF O Ac : Type 0} (rules : Rules S Symbol I F EF O Ac) (play : X → Play S Symbol F EF O) where
+  front-finished : (n : ℕ) (x : Run X F EF S) → IsFinished rules play x → IsWhole rules play x →
       n ≤ length x.steps → IsFinished rules play (front_of n x)
   front-finished n x p whole within =
       record {
@@ -36,7 +36,7 @@ module _ {X S Symbol I F EF O Ac U D : Type 0} (rules : Rules S Symbol I F EF O 
       }
 
   -- fronts of whole runs that feed the same symbols
-  pub fronts-feed : (n : ℕ) (x y : Run X F EF S U D) → IsFinished rules play x → IsWhole rules play x →
+  pub fronts-feed : (n : ℕ) (x y : Run X F EF S) → IsFinished rules play x → IsWhole rules play x →
       AreHeld rules.IsOwn (fronts.absorbed rules play x) → IsFinished rules play y → IsWhole rules play y →
       AreHeld rules.IsOwn (fronts.absorbed rules play y) → FeedTheSameUpTo rules play n x y →
       FeedTheSame rules play (front_of n x) (front_of n y)

@@ -10,7 +10,7 @@ use Rattle.p3_challenger_core.specs.Reading.{AreBytes}
 use Rattle.p3_script.specs.declared.steps.Step as script
 
 -- the prefix of the first n steps
-abbrev pub front_of : {X F EF S U D : Type 0} → ℕ → Run X F EF S U D → Run X F EF S U D
+abbrev pub front_of : {X F EF S : Type 0} → ℕ → Run X F EF S → Run X F EF S
 front_of n run = record run { steps = take n run.steps; values = take n run.values }
 
 module _ {X S Symbol I F EF O Ac : Type 0} (rules : Rules S Symbol I F EF O Ac) (play : X → Play S Symbol F EF O) where
@@ -24,14 +24,14 @@ module _ {X S Symbol I F EF O Ac : Type 0} (rules : Rules S Symbol I F EF O Ac) 
     pub bytes_are : AreBytes bytes
 
   -- both runs have at least n steps, and their first n steps feed the same symbols
-  pub record FeedTheSameUpTo {U D : Type 0} (n : ℕ) (x y : Run X F EF S U D) : Type 0 where
+  pub record FeedTheSameUpTo (n : ℕ) (x y : Run X F EF S) : Type 0 where
     pub within : (n ≤ length x.steps) × (n ≤ length y.steps)
     pub same : symbols rules play (front_of n x) ≡ symbols rules play (front_of n y)
 
 module _ {F EF O Ac : Type 0} (Su U C K D G It S Symbol : Type 0) (rules : Rules S Symbol It F EF O Ac) (state : C → S) where
   -- a script under a separator from a state, with the results of a verifier and of a prover for it
   abbrev Script : Type 0
-  Script = Run (script.Step Su F EF U O C K Ac D G It S Symbol) F EF S U D
+  Script = Run (script.Step Su F EF U O C K Ac D G It S Symbol) F EF S
 
   abbrev Accepted : Type 0
   Accepted = Verified Su F EF U O C K Ac D G It S Symbol

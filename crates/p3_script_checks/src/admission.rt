@@ -7,9 +7,7 @@ use p3_challenger_core::Sponge;
 use p3_codecs::{Codec, MIN_CHALLENGE_SECURITY_BITS};
 use p3_script::{Meaning, Step, StepGroup, Suite};
 
-/// Returns whether the suite can play each step. The suite's group has to have the step. A draw or a proof of work has
-/// at most as many bits as the challenger draws at once. A limit is at least 1. Where a step draws through the codec,
-/// the codec has at least 128 bits of security.
+/// Returns whether the suite can play each step, as [`step_admitted`] says.
 ///
 /// The functions that play a script require this of its steps. Not in the Rust crate.
 pub fn admitted<S: Suite>(steps: &[Step<S>]) -> bool
@@ -17,15 +15,19 @@ pub fn admitted<S: Suite>(steps: &[Step<S>]) -> bool
         IsTrue result ↔ AreAdmitted (play_of rules) steps.now }
 {
     for step in steps {
-        if !is_admitted(step) {
+        if !step_admitted(step) {
             return false;
         }
     }
     true
 }
 
-// Whether the step may be played by the suite.
-fn is_admitted<S: Suite>(step: &Step<S>) -> bool
+/// Returns whether the suite can play the step. The suite's group has to have the step. A draw or a proof of work has at
+/// most as many bits as the challenger draws at once. A limit is at least 1. Where a step draws through the codec, the
+/// codec has at least 128 bits of security.
+///
+/// The functions that play one step require this of it. Not in the Rust crate.
+pub fn step_admitted<S: Suite>(step: &Step<S>) -> bool
     ensures { let rules = ⟦<S as Meaning>⟧.rules S.Field.DIMENSION in
         IsTrue result ↔ (play_of rules step.now).admitted }
 {

@@ -6,6 +6,6 @@ mod admission;
 mod fitting;
 mod matching;
 
-pub use admission::admitted;
+pub use admission::{admitted, step_admitted};
 pub use fitting::{fits, pattern};
 pub use matching::{carried_len, sent_matches, step_matches};

@@ -1,9 +1,11 @@
 -- What a prover is handed for the next step.
 use Rattle.std.{specs.Borrow.Bor, proofs.Common.{drop, slice_get, add-one, ◌⊎◌, ◌≡◌, ◌+◌, ℕ, suc, zero, List, [], ◌∷◌}}
-use Rattle.std.proofs.Common.{◌++◌, Option, Some, None, refl, sym, ap, ◌∙◌, subst}
+use Rattle.std.proofs.Common.{◌++◌, Option, Some, None, refl, sym, ap, ◌∙◌, subst, append-nil, inl, inr, Err}
 use Rattle.p3_driver_core.specs.Driving.{Driving}
-use Rattle.p3_runs.specs.{Plays.Play, Provings.{StartsHanded, where_carried}, Runs.{if_sent, if_drawn}}
-use Rattle.p3_runs.specs.{Sides.Sides, Stepping.{SendsStep, one_of, Halts}, Values.{Value, Challenge, Nothing}}
+use Rattle.p3_runs.specs.{Plays.Play, Provings.{StartsHanded, where_carried}, Runs.{if_sent, if_drawn, if_witness}}
+use Rattle.p3_runs.specs.{Sides.Sides, Stepping.{SendsStep, one_of, Halts}}
+use Rattle.p3_runs.specs.Values.{Value, Challenge, IsNothing, Nothing}
+use Rattle.p3_script.specs.Alike.{PlaysOrRefusesAlike, PlaysWithoutValue}
 use Rattle.p3_script.specs.Scripts.{value_sent, values_sent, challenge_of, challenges_of, drawn_of}
 use Rattle.p3_script.specs.{declared.{steps.{Drawn.Drawn, Sent.Sent}, standing.Standing.Standing}, Standings.StandsSo}
 use Rattle.p3_fs_core.specs.declared.error.TranscriptError.{TranscriptError}
@@ -26,6 +28,28 @@ sends-played play before after given witness drawn s =
       plays = s.plays;
       written = s.written;
     }
+
+-- a step that both sides play alike is sent
+pub alike-sent : {S Symbol F EF O : Type 0} (play : Play S Symbol F EF O) (before after : Driving S) (given : Value F EF)
+    (drawn : Option (Challenge F EF)) → IsNothing given → PlaysWithoutValue play before drawn after →
+    SendsValue play before given None drawn after
+alike-sent play before after Nothing drawn is p =
+    record {
+      fits = p.fits;
+      sent = refl;
+      found = ap (λ q. if_witness q Nothing) p.nowhere;
+      chosen = p.chosen;
+      plays = p.plays;
+      written = p.bytes ∙ sym (ap (λ l. before.bytes ++ l) p.wire ∙ append-nil before.bytes);
+    }
+alike-sent play before after _ drawn is p = absurd is
+
+-- or it is refused
+pub alike-refused : {S Symbol F EF O R : Type 0} (play : Play S Symbol F EF O) (sides : Sides S F EF)
+    (before after : Driving S) (drawn : R → Option (Challenge F EF)) (e : TranscriptError) (given : Value F EF) →
+    PlaysOrRefusesAlike play sides before drawn (Err e) after → sides.prover given before e after ⊎ Halts before e after
+alike-refused play sides before after drawn e given p =
+    elim p.comes [ inl each ↦ inl (each.0 given) | inr halts ↦ inr halts ]
 
 -- a witness is carried where the code says so
 pub carried-same : {S Symbol F EF O : Type 0} (play : Play S Symbol F EF O) (standing : Standing) (xs : List F) →

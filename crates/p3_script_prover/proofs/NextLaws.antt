@@ -26,9 +26,9 @@ admitted-at play (y ∷ steps) rest zero x h at =
     subst (λ z. (play z).admitted) same h.0
 admitted-at play (y ∷ steps) rest (suc i) x h at = admitted-at play steps rest i x h.1 at
 
-module _ {X S Symbol I F EF O Ac U D : Type 0} (rules : Rules S Symbol I F EF O Ac) (play : X → Play S Symbol F EF O) where
+module _ {X S Symbol I F EF O Ac : Type 0} (rules : Rules S Symbol I F EF O Ac) (play : X → Play S Symbol F EF O) where
   -- a step more is played
-  pub next-on : (script : Run X F EF S U D) (sent : List (Value F EF)) (i j k : ℕ) (here there : Driving S)
+  pub next-on : (script : Run X F EF S) (sent : List (Value F EF)) (i j k : ℕ) (here there : Driving S)
       (witnesses0 witnesses1 carried0 carried1 : List F) (drawn0 drawn1 : List (Challenge F EF)) (x : X) →
       drop i script.steps ≡ x ∷ drop (i + 1) script.steps →
       Proves rules play script sent i j here witnesses0 carried0 drawn0 →
@@ -40,7 +40,7 @@ module _ {X S Symbol I F EF O Ac U D : Type 0} (rules : Rules S Symbol I F EF O 
       rw (n.witnesses_is, n.carried_is, n.drawn_is) more
 
   -- it is refused
-  pub next-refused : (sides : X → Sides S F EF) (script : Run X F EF S U D) (sent : List (Value F EF)) (i j : ℕ)
+  pub next-refused : (sides : X → Sides S F EF) (script : Run X F EF S) (sent : List (Value F EF)) (i j : ℕ)
       (here there : Driving S) (witnesses carried : List F) (drawn : List (Challenge F EF)) (x : X) (e : TranscriptError) →
       drop i script.steps ≡ x ∷ drop (i + 1) script.steps →
       Proves rules play script sent i j here witnesses carried drawn → RefusesNext (play x) (sides x) sent j here e there →
@@ -50,14 +50,14 @@ module _ {X S Symbol I F EF O Ac U D : Type 0} (rules : Rules S Symbol I F EF O 
       n.used n.handed f n.refuses))
 
   -- the next step may be played
-  pub next-admitted : (script : Run X F EF S U D) (sent : List (Value F EF)) (i j : ℕ) (now : Driving S)
+  pub next-admitted : (script : Run X F EF S) (sent : List (Value F EF)) (i j : ℕ) (now : Driving S)
       (witnesses carried : List F) (drawn : List (Challenge F EF)) (x : X) →
       Proves rules play script sent i j now witnesses carried drawn →
       drop i script.steps ≡ x ∷ drop (i + 1) script.steps → AreAdmitted play script.steps → (play x).admitted
   next-admitted script sent i j now witnesses carried drawn x f at admitted =
       admitted-at play script.steps (drop (i + 1) script.steps) i x admitted at
 
-  module _ (sides : X → Sides S F EF) (script : Run X F EF S U D) (sent : List (Value F EF)) (i j : ℕ) (now : Driving S)
+  module _ (sides : X → Sides S F EF) (script : Run X F EF S) (sent : List (Value F EF)) (i j : ℕ) (now : Driving S)
       (witnesses carried : List F) (drawn : List (Challenge F EF)) where
     -- where the next step is refused for another reason than being out of memory, no values are the script's
     pub next-never : (there : Driving S) (x : X) (e : TranscriptError) →

@@ -5,8 +5,14 @@ use Rattle.p3_fs_core.specs.declared.error.TranscriptError.{TranscriptError}
 use Rattle.p3_driver_core.specs.Driving.{Driving}
 use Rattle.p3_runs.specs.{Plays.Play, Provings.where_carried, Runs.{if_sent, if_drawn}, Values.{Value, Challenge}}
 use Rattle.p3_runs.specs.{Sides.Sides, Stepping.{SendsStep, Halts, one_of}}
-use Rattle.p3_script.specs.declared.standing.Standing.{Standing}
+use Rattle.p3_runs.specs.Rules.{Rules}
+use Rattle.p3_drivers.specs.{Drivers.proving_of, declared.{driver.DriverState.DriverState, tape.Written.Written}}
+use Rattle.p3_script.specs.{Scripts.{play_of, values_sent, challenges_of}, ScriptRefusals.sides_of}
+use Rattle.p3_script.specs.declared.{standing.Standing.Standing, steps.Sent.Sent}
+use Rattle.p3_script_prover.specs.declared.proving.Made.{Made}
+use Rattle.p3_symmetric.specs.declared.digest_hasher.DigestHasher.{Ghosts}
 use Rattle.p3_script.specs.declared.standing.Standing.TheVariants as standing
+use Rattle.p3_script.specs.declared.steps.Step as script
 
 -- the witness, where the caller carries it
 abbrev pub carried_at : {A : Type 0} → Standing → List A → List A
@@ -58,3 +64,13 @@ pub record NextOrRefuses {S Symbol F EF O R : Type 0} (play : Play S Symbol F EF
   pub comes : MatchResult result
       (λ _. PlaysNext play sent j k here there witnesses0 witnesses1 carried0 carried1 drawn0 drawn1)
       (λ e. RefusesNext play sides sent j here e there)
+
+-- a prover plays the script's step with the first unused value and keeps its results, or the step is refused
+abbrev pub PlaysNextStep : {Su F EF U O C K Ac D G It St Sy R : Type 0} {hasher : Ghosts D} → Rules St Sy It F EF O Ac →
+    (C → St) → script.Step Su F EF U O C K Ac D G It St Sy → List (Sent Su F EF U O C K Ac D G It St Sy) → ℕ →
+    DriverState C U D Written hasher → Made Su F EF U O C K Ac D G It St Sy → Result R TranscriptError → ℕ →
+    DriverState C U D Written hasher → Made Su F EF U O C K Ac D G It St Sy → Type 0
+PlaysNextStep rules state step sent j before made result k after kept = NextOrRefuses (play_of rules step)
+    (sides_of rules step) (values_sent sent) j (proving_of state before) made.witnesses.items made.carried.items
+    (challenges_of made.challenges.items) result k (proving_of state after) kept.witnesses.items kept.carried.items
+    (challenges_of kept.challenges.items)

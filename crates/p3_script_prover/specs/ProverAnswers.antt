@@ -65,7 +65,7 @@ module _ {Su F EF U O C K Ac D G It St Sy : Type 0} {hasher : Ghosts D} (rules :
       (proving_of state before) (λ r. r.0) (λ r. drawn_of r.1) result (proving_of state after)
 
 module _ {Su F EF U O C K Ac D G It St Sy S Symbol : Type 0} (rules : Rules S Symbol It F EF O Ac)
-    (script : Run (script.Step Su F EF U O C K Ac D G It St Sy) F EF S U D) (sent : List (Value F EF)) where
+    (script : Run (script.Step Su F EF U O C K Ac D G It St Sy) F EF S) (sent : List (Value F EF)) where
   -- the values have a run with this proof, these witnesses and challenges, and this challenger; each step with a
   -- witness to carry has one
   abbrev pub IsProvedScript : (C → S) → Proved Su F EF U O C K Ac D G It St Sy → Type 0

@@ -1,7 +1,6 @@
 //! Proving scripts, with all values at hand.
 #![tactic(auto)]
 
-mod drawing;
 mod proving;
 mod sending;
 mod stepping;

@@ -1,10 +1,9 @@
 //! Whole scripts, on the prover's side.
 ghost use Rattle.std.specs.{Option.OnSome, Prelude.{◌≡◌, ◌<◌, ◌++◌, drop, length, IfOk, IfErr, OnOk}};
-ghost use Rattle.p3_drivers.specs.Drivers.{proving_of};
 ghost use Rattle.p3_runs.specs.{Provings.{StartsHanded, AreHanded}, Runs.AreAdmitted, Stepping.one_of};
 ghost use Rattle.p3_runs.specs.Verdicts.{script_of};
-ghost use Rattle.p3_script.specs.{Scripts.{play_of, values_sent, challenges_of}, ScriptRefusals.sides_of};
-ghost use Rattle.p3_script_prover.specs.Nexts.{IsGivenAt, next_place, carried_at, NextOrRefuses};
+ghost use Rattle.p3_script.specs.Scripts.{play_of, values_sent};
+ghost use Rattle.p3_script_prover.specs.Nexts.{IsGivenAt, next_place, carried_at, PlaysNextStep};
 ghost use Rattle.p3_script_prover.specs.ProverAnswers.{IsProvedScript, IsRefusedScript};
 
 use crate::stepping::prover_step;
@@ -125,12 +124,8 @@ fn play_next<S: Suite>(
     requires admitted { (play_of (⟦<S as Meaning>⟧.rules S.Field.DIMENSION) step.now).admitted }
     requires handed { let play = play_of (⟦<S as Meaning>⟧.rules S.Field.DIMENSION) step.now in
         StartsHanded play.place play.IsHanded (drop next.old (values_sent sent.now)) }
-    ensures { let rules = ⟦<S as Meaning>⟧.rules S.Field.DIMENSION in
-        NextOrRefuses (play_of rules step.now) (sides_of rules step.now)
-        (values_sent sent.now) next.old (proving_of S.Challenger.state prover.old)
-        made.old.witnesses.items made.old.carried.items (challenges_of made.old.challenges.items)
-        result next.new (proving_of S.Challenger.state prover.new) made.new.witnesses.items
-        made.new.carried.items (challenges_of made.new.challenges.items) }
+    ensures { PlaysNextStep (⟦<S as Meaning>⟧.rules S.Field.DIMENSION) S.Challenger.state step.now
+        sent.now next.old prover.old made.old result next.new prover.new made.new }
 {
     let standing = standing_of(step);
     let given = given_at(standing, sent, *next);

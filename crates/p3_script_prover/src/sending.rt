@@ -1,4 +1,4 @@
-//! The steps that do not draw, on the prover's side.
+//! The steps that a prover plays in its own way.
 ghost use Rattle.std.specs.Prelude.{◌≡◌, ◌≤◌, ◌++◌, List, ℕ, IsTrue};
 ghost use Rattle.p3_fs_core.specs.Scalar.{encoding};
 ghost use Rattle.p3_runs.specs.{Plays.{Any, HasLength}, Values.{bytes_in, scalar_in, scalars_in, extension_in}};
@@ -9,34 +9,8 @@ use crate::stepping::Played;
 use p3_challenger_core::Sponge;
 use p3_codecs::{Codec, ExtensionFieldCodec};
 use p3_drivers::ProverState;
-use p3_fs_core::{Kind, Label, PatternError, TranscriptError, TranscriptField};
+use p3_fs_core::{Label, PatternError, TranscriptError, TranscriptField};
 use p3_script::{Meaning, Sent, Step, StepGroup, Suite};
-
-// Opens a container.
-pub(crate) fn begin<S: Suite>(
-    prover: &mut ProverState<S::Challenger, S::Unit, S::Digest>,
-    label: Label,
-    kind: Kind,
-) -> Result<Played<S>, TranscriptError>
-    ensures { PlaysUnhanded (⟦<S as Meaning>⟧.rules S.Field.DIMENSION) S.Challenger.state
-        (Step.Begin label.entry kind) prover.old result prover.new }
-{
-    prover.begin::<()>(label, kind)?;
-    Ok((None, None))
-}
-
-// Closes a container.
-pub(crate) fn end<S: Suite>(
-    prover: &mut ProverState<S::Challenger, S::Unit, S::Digest>,
-    label: Label,
-    kind: Kind,
-) -> Result<Played<S>, TranscriptError>
-    ensures { PlaysUnhanded (⟦<S as Meaning>⟧.rules S.Field.DIMENSION) S.Challenger.state
-        (Step.End label.entry kind) prover.old result prover.new }
-{
-    prover.end::<()>(label, kind)?;
-    Ok((None, None))
-}
 
 // Adds a scalar that both sides know.
 pub(crate) fn add_public_scalar<S: Suite>(
@@ -78,19 +52,6 @@ pub(crate) fn add_public_scalars_bounded<S: Suite>(
     Ok((None, None))
 }
 
-// Observes an element of the extension that the proof does not carry.
-pub(crate) fn observe_extension<S: Suite>(
-    prover: &mut ProverState<S::Challenger, S::Unit, S::Digest>,
-    label: Label,
-    element: &S::Extension,
-) -> Result<Played<S>, TranscriptError>
-    ensures { PlaysUnhanded (⟦<S as Meaning>⟧.rules S.Field.DIMENSION) S.Challenger.state
-        (Step.ObserveExtension label.entry element.now) prover.old result prover.new }
-{
-    let _bound = prover.observe_extension::<S::Field, S::Extension, S::Codec>(label, element)?;
-    Ok((None, None))
-}
-
 // Observes elements of the extension that the proof does not carry.
 pub(crate) fn observe_extensions<S: Suite>(
     prover: &mut ProverState<S::Challenger, S::Unit, S::Digest>,
@@ -117,26 +78,6 @@ pub(crate) fn observe_extensions_bounded<S: Suite>(
     let _bounds = prover.observe_extensions_bounded::<S::Field, S::Extension, S::Codec>(
         label, elements, max,
     )?;
-    Ok((None, None))
-}
-
-// Observes a value as the challenger itself knows how.
-pub(crate) fn observe_opaque<S: Suite>(
-    prover: &mut ProverState<S::Challenger, S::Unit, S::Digest>,
-    label: Label,
-    value: &S::Opaque,
-) -> Result<Played<S>, TranscriptError>
-    ensures { PlaysUnhanded (⟦<S as Meaning>⟧.rules S.Field.DIMENSION) S.Challenger.state
-        (Step.Opaque label.entry value.now) prover.old result prover.new }
-{
-    let copy = match value.clone() {
-        Ok(copy) => copy,
-        Err(_) => {
-            prover.halt();
-            return Err(TranscriptError::OutOfMemory);
-        }
-    };
-    let _bound = prover.observe_opaque(label, copy)?;
     Ok((None, None))
 }
 

@@ -1,13 +1,12 @@
 //! One step of a script, on the prover's side.
-ghost use Rattle.p3_script.specs.{Scripts.play_of, StepFamilies.{SendsNothing, Draws}};
+ghost use Rattle.p3_script.specs.{Scripts.play_of, StepFamilies.SendsNothing};
 ghost use Rattle.p3_script_prover.specs.ProverAnswers.{PlaysHanded, PlaysUnhanded, value_given};
 
-use crate::{drawing, sending};
+use crate::sending;
 use p3_challenger_core::Sponge;
-use p3_codecs::{Codec, ExtensionFieldCodec};
 use p3_drivers::ProverState;
 use p3_fs_core::TranscriptError;
-use p3_script::{Drawn, Meaning, Sent, Step, StepGroup, Suite};
+use p3_script::{Drawn, Meaning, Sent, Step, Suite, play_alike};
 use std::alloc::Global;
 
 /// What a prover returns for a step: the witness of a proof of work, and the challenge of a draw. Not in the Rust
@@ -67,8 +66,6 @@ fn unsent_step<S: Suite>(
         step.now prover.old result prover.new }
 {
     match step {
-        Step::Begin { label, kind } => sending::begin(prover, *label, *kind),
-        Step::End { label, kind } => sending::end(prover, *label, *kind),
         Step::PublicScalar { label, value } => sending::add_public_scalar(prover, *label, value),
         Step::PublicScalars { label, values } => {
             sending::add_public_scalars(prover, *label, values)
@@ -76,53 +73,15 @@ fn unsent_step<S: Suite>(
         Step::PublicScalarsBounded { label, values, max } => {
             sending::add_public_scalars_bounded(prover, *label, values, *max)
         }
-        Step::ObserveExtension { label, value } => {
-            sending::observe_extension(prover, *label, value)
-        }
         Step::ObserveExtensions { label, values } => {
             sending::observe_extensions(prover, *label, values)
         }
         Step::ObserveExtensionsBounded { label, values, max } => {
             sending::observe_extensions_bounded(prover, *label, values, *max)
         }
-        Step::Opaque { label, value } => sending::observe_opaque(prover, *label, value),
-        _ => draw_step(alloc, prover, step),
-    }
-}
-
-// Plays a draw.
-fn draw_step<S: Suite>(
-    alloc: Global,
-    prover: &mut ProverState<S::Challenger, S::Unit, S::Digest>,
-    step: &Step<S>,
-) -> Result<Played<S>, TranscriptError>
-    requires family { Draws step.now }
-    requires admitted { (play_of (⟦<S as Meaning>⟧.rules S.Field.DIMENSION) step.now).admitted }
-    ensures { PlaysUnhanded (⟦<S as Meaning>⟧.rules S.Field.DIMENSION) S.Challenger.state
-        step.now prover.old result prover.new }
-{
-    match step {
-        Step::ChallengeScalar { label } => drawing::scalar(alloc, prover, *label),
-        Step::ChallengeScalars { label, n } => drawing::scalars(alloc, prover, *label, *n),
-        Step::ChallengeExtension { label } => drawing::extension(alloc, prover, *label),
-        Step::ChallengeExtensions { label, n } => drawing::extensions(alloc, prover, *label, *n),
-        Step::ChallengeExtensionsRejecting {
-            label,
-            n,
-            accept,
-            limit,
-        } => drawing::extensions_rejecting(alloc, prover, *label, *n, accept, *limit),
-        Step::ChallengeBits { label, width, n } => drawing::bits(alloc, prover, *label, *width, *n),
-        Step::ChallengeUniformBits { label, width, n } => {
-            drawing::uniform_bits(alloc, prover, *label, *width, *n)
+        _ => {
+            let drawn = play_alike(alloc, prover, step)?;
+            Ok((None, drawn))
         }
-        Step::ChallengeUniformBitsRejecting {
-            label,
-            width,
-            n,
-            accept,
-            limit,
-        } => drawing::uniform_bits_rejecting(alloc, prover, *label, *width, *n, accept, *limit),
-        _ => unreachable!(),
     }
 }

@@ -19,8 +19,8 @@ is-memory (MismatchedBeginEnd x) = inr (λ is. absurd (cc))
 is-memory (MissingEnd x) = inr (λ is. absurd (cc))
 is-memory LabelTooLong = inr (λ is. absurd (cc))
 
-module _ {X S Symbol I F EF O Ac U D : Type 0} (rules : Rules S Symbol I F EF O Ac) (play : X → Play S Symbol F EF O)
-    (script : Run X F EF S U D) (sent : List (Value F EF)) (narg : List ℕ) (witnesses carried : List F)
+module _ {X S Symbol I F EF O Ac : Type 0} (rules : Rules S Symbol I F EF O Ac) (play : X → Play S Symbol F EF O)
+    (script : Run X F EF S) (sent : List (Value F EF)) (narg : List ℕ) (witnesses carried : List F)
     (drawn : List (Challenge F EF)) (end : S)
     (p : IsProved rules play script sent narg witnesses carried drawn end) where
   is-proof : IsProof rules play (with_steps script script.steps p.values) narg carried

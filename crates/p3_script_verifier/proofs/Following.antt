@@ -33,8 +33,8 @@ module _ {X S Symbol F EF O : Type 0} (play : X → Play S Symbol F EF O) where
       = ap (carried_count play) at in
       omega (arith, count, left)
 
-module _ {X S Symbol I F EF O Ac U D : Type 0} (rules : Rules S Symbol I F EF O Ac) (play : X → Play S Symbol F EF O)
-    (script : Run X F EF S U D) (bytes : List ℕ) (carried : List F) where
+module _ {X S Symbol I F EF O Ac : Type 0} (rules : Rules S Symbol I F EF O Ac) (play : X → Play S Symbol F EF O)
+    (script : Run X F EF S) (bytes : List ℕ) (carried : List F) where
   -- the step that comes next may be played
   pub next-admitted : (i j : ℕ) (here : Driving S) (received : List (Value F EF)) (drawn : List (Challenge F EF))
       (x : X) (later : List X) → Follows rules play script bytes carried i j here received drawn →

@@ -43,8 +43,18 @@ pub record KeepsOne {S Symbol F EF O : Type 0} (play : Play S Symbol F EF O) (wi
   pub kept : received_now ≡ received ++ shown
   pub drew : drawn_now ≡ drawn ++ if_drawn (Some draws)
 
+-- a verifier plays a script's step, and what it received and drew is added to the earlier results
+abbrev pub KeepsStep : {Su F EF U O C K Ac D G It St Sy : Type 0} {hasher : Ghosts D} → Rules St Sy It F EF O Ac →
+    (C → St) → script.Step Su F EF U O C K Ac D G It St Sy → Option F → DriverState C U D Unread hasher →
+    List (Received Su F EF U O C K Ac D G It St Sy) → List (Drawn Su F EF U O C K Ac D G It St Sy) →
+    DriverState C U D Unread hasher → List (Received Su F EF U O C K Ac D G It St Sy) →
+    List (Drawn Su F EF U O C K Ac D G It St Sy) → Type 0
+KeepsStep rules state step witness before received drawn after received_now drawn_now = KeepsOne (play_of rules step)
+    witness (verifying_of state before) (values_received received) (challenges_of drawn) (verifying_of state after)
+    (values_received received_now) (challenges_of drawn_now)
+
 module _ {Su F EF U O C K Ac D G It St Sy S Symbol : Type 0} (rules : Rules S Symbol It F EF O Ac)
-    (script : Run (script.Step Su F EF U O C K Ac D G It St Sy) F EF S U D) (bytes : List ℕ) (carried : List F) where
+    (script : Run (script.Step Su F EF U O C K Ac D G It St Sy) F EF S) (bytes : List ℕ) (carried : List F) where
   -- the proof is accepted with these received values, challenges and challenger
   abbrev pub IsVerifiedScript : (C → S) → Verified Su F EF U O C K Ac D G It St Sy → Type 0
   IsVerifiedScript state verified = Accepts rules (play_of rules) script bytes carried

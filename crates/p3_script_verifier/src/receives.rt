@@ -7,8 +7,7 @@ use p3_challenger_core::{CanObserve, Sponge};
 use p3_codecs::{Codec, ExtensionFieldCodec, Unit};
 use p3_drivers::VerifierState;
 use p3_fs_core::{Label, TranscriptError};
-use p3_script::draws::unbound;
-use p3_script::{Meaning, Received, Step, Suite};
+use p3_script::{Meaning, Received, Step, Suite, unbound};
 use p3_step_laws::{read_bytes_are_encoded, read_hints_are_encoded, read_values_are_encoded};
 use std::alloc::Global;
 

@@ -1,7 +1,7 @@
 //! One step of a script, on the verifier's side.
 ghost use Rattle.std.specs.Prelude.{None};
 ghost use Rattle.p3_runs.specs.Stepping.{IsCarriedTo};
-ghost use Rattle.p3_script.specs.{Scripts.play_of, StepFamilies.{SendsNothing, Draws}};
+ghost use Rattle.p3_script.specs.{Scripts.play_of, StepFamilies.SendsNothing};
 ghost use Rattle.p3_script_verifier.specs.VerifierAnswers.{AnswersStep};
 
 use crate::answer::Answer;
@@ -9,7 +9,7 @@ use crate::{known, receives, work};
 use p3_challenger_core::Sponge;
 use p3_drivers::VerifierState;
 use p3_fs_core::TranscriptError;
-use p3_script::{Meaning, Step, Suite};
+use p3_script::{Meaning, Step, Suite, play_alike};
 use std::alloc::Global;
 
 /// Plays one step of a script on a verifier, and returns what is received and what is drawn.
@@ -68,62 +68,18 @@ fn unsent_step<'a, S: Suite>(
         step.now None verifier.old result verifier.new }
 {
     match step {
-        Step::Begin { label, kind } => known::begin(verifier, *label, *kind),
-        Step::End { label, kind } => known::end(verifier, *label, *kind),
         Step::PublicScalar { label, value } => known::public_scalar(verifier, *label, value),
         Step::PublicScalars { label, values } => known::public_scalars(verifier, *label, values),
         Step::PublicScalarsBounded { label, values, max } => {
             known::counted_public_scalars(verifier, *label, values, *max)
         }
-        Step::ObserveExtension { label, value } => known::extension(verifier, *label, value),
         Step::ObserveExtensions { label, values } => known::extensions(verifier, *label, values),
         Step::ObserveExtensionsBounded { label, values, max } => {
             known::counted_extensions(verifier, *label, values, *max)
         }
-        Step::Opaque { label, value } => known::opaque(verifier, *label, value),
-        _ => draw_step(alloc, verifier, step),
-    }
-}
-
-// Plays a draw.
-fn draw_step<'a, S: Suite>(
-    alloc: Global,
-    verifier: &mut VerifierState<'a, S::Challenger, S::Unit, S::Digest>,
-    step: &Step<S>,
-) -> Result<Answer<'a, S>, TranscriptError>
-    requires family { Draws step.now }
-    requires admitted { (play_of (⟦<S as Meaning>⟧.rules S.Field.DIMENSION) step.now).admitted }
-    ensures { AnswersStep (⟦<S as Meaning>⟧.rules S.Field.DIMENSION) S.Challenger.state
-        step.now None verifier.old result verifier.new }
-{
-    match step {
-        Step::ChallengeScalar { label } => known::draw_scalar(alloc, verifier, *label),
-        Step::ChallengeScalars { label, n } => known::draw_scalars(alloc, verifier, *label, *n),
-        Step::ChallengeExtension { label } => known::draw_extension(alloc, verifier, *label),
-        Step::ChallengeExtensions { label, n } => {
-            known::draw_extensions(alloc, verifier, *label, *n)
+        _ => {
+            let drawn = play_alike(alloc, verifier, step)?;
+            Ok((None, drawn))
         }
-        Step::ChallengeExtensionsRejecting {
-            label,
-            n,
-            accept,
-            limit,
-        } => { known::draw_extensions_rejecting(alloc, verifier, *label, *n, accept, *limit) }
-        Step::ChallengeBits { label, width, n } => {
-            known::draw_bits(alloc, verifier, *label, *width, *n)
-        }
-        Step::ChallengeUniformBits { label, width, n } => {
-            known::draw_uniform_bits(alloc, verifier, *label, *width, *n)
-        }
-        Step::ChallengeUniformBitsRejecting {
-            label,
-            width,
-            n,
-            accept,
-            limit,
-        } => {
-            known::draw_uniform_bits_rejecting(alloc, verifier, *label, *width, *n, accept, *limit)
-        }
-        _ => unreachable!(),
     }
 }

@@ -6,7 +6,7 @@ ghost use Rattle.p3_runs.specs.{Runs.{AreAdmitted, carried_count, if_carried, if
 ghost use Rattle.p3_runs.specs.Stepping.{one_of, IsCarriedTo};
 ghost use Rattle.p3_script.specs.ScriptRefusals.{sides_of};
 ghost use Rattle.p3_script.specs.Scripts.{play_of, received_of, drawn_of, values_received, challenges_of};
-ghost use Rattle.p3_script_verifier.specs.VerifierAnswers.{IsRefused, KeepsOne, IsVerifiedScript, IsRefusedProof};
+ghost use Rattle.p3_script_verifier.specs.VerifierAnswers.{IsRefused, KeepsStep, IsVerifiedScript, IsRefusedProof};
 
 use crate::stepping::verifier_step;
 use p3_challenger_core::Sponge;
@@ -86,10 +86,9 @@ fn take_step<'a, S: Suite>(
     requires admitted { (play_of (⟦<S as Meaning>⟧.rules S.Field.DIMENSION) step.now).admitted }
     requires carried { let rules = ⟦<S as Meaning>⟧.rules S.Field.DIMENSION in
         IsCarriedTo (play_of rules step.now).place witness }
-    ensures ok { OnOk result (KeepsOne (play_of (⟦<S as Meaning>⟧.rules S.Field.DIMENSION) step.now)
-        witness (verifying_of S.Challenger.state verifier.old) (values_received received.old.items)
-        (challenges_of challenges.old.items) (verifying_of S.Challenger.state verifier.new)
-        (values_received received.new.items) (challenges_of challenges.new.items)) }
+    ensures ok { OnOk result (KeepsStep (⟦<S as Meaning>⟧.rules S.Field.DIMENSION) S.Challenger.state
+        step.now witness verifier.old received.old.items challenges.old.items verifier.new
+        received.new.items challenges.new.items) }
     ensures err { IfErr result (IsRefused (sides_of (⟦<S as Meaning>⟧.rules S.Field.DIMENSION)
         step.now) witness (verifying_of S.Challenger.state verifier.old)) }
 {

@@ -11,3 +11,8 @@ written_first (y ∷ ys) x some = record { wanted = refl; fits = λ _. refl; too
 pub first_written : (xs : List ℕ) (x : ℕ) → 0 < length xs → take 1 (slice_set xs 0 x) ≡ x ∷ []
 first_written [] x some = absurd (omega (arith, some))
 first_written (y ∷ ys) x some = refl
+
+-- and no other is
+pub not_first : (xs : List ℕ) (x z : ℕ) → 0 < length xs → (x ≡ z → ⊥) → take 1 (slice_set xs 0 x) ≡ z ∷ [] → ⊥
+not_first [] x z some other e = absurd (omega (arith, some))
+not_first (y ∷ ys) x z some other e = grind arith

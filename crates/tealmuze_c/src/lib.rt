@@ -5,21 +5,27 @@
 //! bytes and returns how many bytes the answer has. Where they are more than the caller gave, nothing is written, and
 //! nothing was verified or proved yet: the caller gives that many and calls again.
 //!
-//! A protocol that is prepared is read once, and then serves many proofs. It is kept for as long as the program runs.
+//! A protocol that is prepared is read once, and then serves many proofs. It is kept for as long as the program runs. A
+//! transcript of it can be played step by step: the caller owns it from the call that begins it to the one that frees it.
 #![tactic(auto)]
 
-ghost use Rattle.std.specs.Prelude.{◌≡◌, ◌∷◌, [], ℕ, List, length, IfOk, IfErr, MatchOption};
+ghost use Rattle.std.specs.Prelude.{◌≡◌, ◌≤◌, ◌∷◌, [], ℕ, List, length, IfOk, IfErr, MatchOption};
 ghost use Rattle.std.specs.{Borrow.{sem}, Ptr.{as_ptr}};
-ghost use Rattle.tealmuze_c.specs.{Kept.is_shared_at, Told.IsPrepared};
+ghost use Rattle.tealmuze_c.specs.{Kept.is_shared_at, Owned.is_owned_at, Told.{Begins, IsBegun, IsPrepared, IsStep}};
 ghost use Rattle.tealmuze_calls.specs.{Errors.IsDueTo, Written.Answers};
 ghost use Rattle.tealmuze_calls.specs.contracts.prepared.Prepared.{the_row};
+ghost use Rattle.tealmuze_live.specs.{Lives.IsNotBegun, contracts.live.Live.{the_row as the_live}};
 
+mod handed;
+
+use crate::handed::Handed;
 use std::alloc::{AllocError, Global};
 use std::ptr::NonNull;
 use tealmuze_calls::{
     CallsBySuite, Described, Prepared, Suites, Unanswered, prepare, prove, prove_prepared, tell,
     verify, verify_prepared,
 };
+use tealmuze_live::{Live, NotBegun, Starts, Tells};
 
 /// Verifies a proof of the protocol that the description has, with the witnesses that its `observe_pow` steps are
 /// carried.
@@ -198,3 +204,191 @@ fn prove_kept(prepared: &'static Prepared, alloc: Global, values: &[u8], answer:
     let found = prove_prepared(alloc, prepared, values, answer.len());
     tell(alloc, found, answer)
 }
+
+// How many bytes suffice for the answer of `tealmuze_prover` and of `tealmuze_verifier`: its first, a position, and a
+// reason.
+const BEGUN_ROOM: usize = 1009;
+
+/// Begins a prover of a prepared protocol, which is played step by step.
+///
+/// The answer is the byte 0 alone, and `transcript` then leads to a prover at the start of the protocol: its challenger
+/// observed nothing but the seed, no step was played, and no byte of the proof is written. Or the answer begins with 1,
+/// where the seed is refused, or with 3, as those of `tealmuze_verify` do, and `transcript` is as it was. At most 1009
+/// bytes are wanted for it, and where there are fewer nothing is begun. `prepared` is a pointer that `tealmuze_prepare`
+/// wrote. One thread at a time may call with it, and with the transcripts of its protocol.
+#[unsafe(no_mangle)]
+pub unsafe extern "C" fn tealmuze_prover(
+    alloc: Global,
+    prepared: *mut u8,
+    transcript: &mut *mut u8,
+    answer: &mut [u8],
+) -> usize
+    ghost read: { Prepared }
+    requires* shared { sem 𝓛 (is_shared_at the_row prepared read) }
+    ensures told { Begins answer.old result answer.new }
+    ensures* handed { ∃ₛ (λ (is : Live). sem 𝓛 (is_owned_at the_live transcript.new is)
+        ∗ ⌜ IsBegun result answer.new × ⟦<Live as Starts>⟧.starts 1 read None is ⌝)
+        ∨ₛ ⌜ (IsBegun result answer.new → ⊥) × (transcript.new ≡ transcript.old) ⌝ }
+{
+    let Handed { written, marker: _ } = begin_prover(
+        &*(prepared as *mut Prepared),
+        alloc,
+        transcript,
+        answer,
+    );
+    written
+}
+
+fn begin_prover(
+    prepared: &'static Prepared,
+    alloc: Global,
+    transcript: &mut *mut u8,
+    answer: &mut [u8],
+) -> Handed<Live>
+    ensures told { Begins answer.old result.written answer.new }
+    ensures handed { MatchOption result.is
+        ((IsBegun result.written answer.new → ⊥) × (transcript.new ≡ transcript.old))
+        (λ is. (IsBegun result.written answer.new × ⟦<Live as Starts>⟧.starts 1 prepared.now None is)
+        × (transcript.new ≡ result.at)) }
+{
+    if answer.len() < BEGUN_ROOM {
+        return Handed::none(BEGUN_ROOM);
+    }
+    hand_over(alloc, Live::prover(alloc, prepared), transcript, answer)
+}
+
+/// Begins a verifier of a proof of a prepared protocol, which is played step by step. The proof is copied, and all of it is
+/// left to read at the start.
+///
+/// The answer and the conditions are those of `tealmuze_prover`.
+#[unsafe(no_mangle)]
+pub unsafe extern "C" fn tealmuze_verifier(
+    alloc: Global,
+    prepared: *mut u8,
+    proof: &[u8],
+    transcript: &mut *mut u8,
+    answer: &mut [u8],
+) -> usize
+    ghost read: { Prepared }
+    requires* shared { sem 𝓛 (is_shared_at the_row prepared read) }
+    ensures told { Begins answer.old result answer.new }
+    ensures* handed { ∃ₛ (λ (is : Live). sem 𝓛 (is_owned_at the_live transcript.new is)
+        ∗ ⌜ IsBegun result answer.new × ⟦<Live as Starts>⟧.starts 1 read (Some proof.now) is ⌝)
+        ∨ₛ ⌜ (IsBegun result answer.new → ⊥) × (transcript.new ≡ transcript.old) ⌝ }
+{
+    let Handed { written, marker: _ } = begin_verifier(
+        &*(prepared as *mut Prepared),
+        alloc,
+        proof,
+        transcript,
+        answer,
+    );
+    written
+}
+
+fn begin_verifier(
+    prepared: &'static Prepared,
+    alloc: Global,
+    proof: &[u8],
+    transcript: &mut *mut u8,
+    answer: &mut [u8],
+) -> Handed<Live>
+    ensures told { Begins answer.old result.written answer.new }
+    ensures handed { MatchOption result.is
+        ((IsBegun result.written answer.new → ⊥) × (transcript.new ≡ transcript.old))
+        (λ is. (IsBegun result.written answer.new × ⟦<Live as Starts>⟧.starts 1 prepared.now (Some proof.now) is)
+        × (transcript.new ≡ result.at)) }
+{
+    if answer.len() < BEGUN_ROOM {
+        return Handed::none(BEGUN_ROOM);
+    }
+    hand_over(
+        alloc,
+        Live::verifier(alloc, prepared, proof),
+        transcript,
+        answer,
+    )
+}
+
+// Hands out a transcript that was begun, or tells why there is none.
+fn hand_over(
+    alloc: Global,
+    begun: Result<Live, NotBegun>,
+    transcript: &mut *mut u8,
+    answer: &mut [u8],
+) -> Handed<Live>
+    requires room { 1009 ≤ length answer.now }
+    requires begun { IfErr begun (λ e. IsNotBegun e.found) }
+    ensures told { Begins answer.old result.written answer.new }
+    ensures handed { MatchOption result.is
+        ((IsBegun result.written answer.new → ⊥) × (transcript.new ≡ transcript.old))
+        (λ is. (IsBegun result.written answer.new × (begun ≡ Ok is))
+        × (transcript.new ≡ result.at)) }
+{
+    match on_the_heap(alloc, begun) {
+        Ok(live) => {
+            answer[0] = 0;
+            Handed::of(live, transcript, 1)
+        }
+        Err(reason) => Handed::none(tell(alloc, reason.found, answer)),
+    }
+}
+
+fn on_the_heap(alloc: Global, begun: Result<Live, NotBegun>) -> Result<Box<Live>, NotBegun>
+    requires { IfErr begun (λ e. IsNotBegun e.found) }
+    ensures ok { IfOk result (λ live. begun ≡ Ok live.value) }
+    ensures err { IfErr result (λ e. IsNotBegun e.found) }
+{
+    match Box::new(alloc, begun?) {
+        Ok(live) => Ok(live),
+        Err(_) => Err(NotBegun {
+            found: Err(Unanswered::OutOfMemory),
+        }),
+    }
+}
+
+/// Plays the next step of a transcript; or ends it, where the request has no bytes.
+///
+/// A request is the step, in the form of descriptions, and then the value that a prover sends there, if it sends one, or
+/// the number of the witness that is carried to a verifier, if one is. After a first byte 0 stand, of a prover, the list of
+/// the witness that was found, if one was, and the list of what was drawn, if anything was; of a verifier the list of what
+/// was received and the list of what was drawn; and at the end of a prover the proof, after its length. The other answers
+/// are as of `tealmuze_verify`. After a 2 nothing was played, and after a 1 no step may follow. Memory may run out before the
+/// step is played or after it: after a 3 the transcript is as it was, or no step may follow.
+///
+/// `transcript` is a pointer that `tealmuze_prover` or `tealmuze_verifier` wrote.
+#[unsafe(no_mangle)]
+pub unsafe extern "C" fn tealmuze_step(
+    alloc: Global,
+    transcript: *mut u8,
+    request: &[u8],
+    answer: &mut [u8],
+) -> usize
+    ghost was: { Live }
+    requires* owned { sem 𝓛 (is_owned_at the_live transcript was) }
+    ensures* { ∃ₛ (λ (is : Live). sem 𝓛 (is_owned_at the_live transcript is)
+        ∗ ⌜ IsStep (⟦<Live as Tells>⟧.tells 1) was request.now answer.old is answer.new result ⌝) }
+{
+    step(&mut *(transcript as *mut Live), alloc, request, answer)
+}
+
+fn step(transcript: &mut Live, alloc: Global, request: &[u8], answer: &mut [u8]) -> usize
+    ensures { IsStep (⟦<Live as Tells>⟧.tells 1) transcript.old request.now answer.old transcript.new
+        answer.new result }
+{
+    let found = transcript.step(alloc, request, answer.len());
+    tell(alloc, found, answer)
+}
+
+/// Frees a transcript, whether it has ended or not.
+///
+/// `transcript` is a pointer that `tealmuze_prover` or `tealmuze_verifier` wrote, and is not called with after this.
+#[unsafe(no_mangle)]
+pub unsafe extern "C" fn tealmuze_free(alloc: Global, transcript: *mut u8)
+    ghost was: { Live }
+    requires* owned { sem 𝓛 (is_owned_at the_live transcript was) }
+{
+    free(Box::from_raw(alloc, transcript as *mut Live))
+}
+
+fn free(_transcript: Box<Live>) {}

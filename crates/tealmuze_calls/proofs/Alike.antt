@@ -1,10 +1,9 @@
 -- The same bytes describe protocols that are alike.
 use Rattle.std.proofs.Common.{◌≡◌, ℕ, zero, suc, ◌<◌, List, [], ◌∷◌, length, map, sym, ap, ◌∙◌}
-use Rattle.p3_challenger.specs.{DomainSeparator.DomainSeparator, SeparatorSeed.{separator_of, pattern_of}}
 use Rattle.p3_challenger.specs.{Rendering.hashed_text, Rules.Rules, Scripts.play_of, Seed.{identifier, label_of, seed_of_parts}}
-use Rattle.p3_challenger.specs.{PatternSteps.PatternSteps, ScriptRefusals.sides_of, Separators.Separator, Steps.Step}
+use Rattle.p3_challenger.specs.{PatternSteps.PatternSteps, ScriptRefusals.sides_of, Separators.{HeldSeparator, Separator, contents_of}, Steps.Step}
 use Rattle.p3_patterns.specs.PatternStepLaws.{PatternSteps-same}
-use Rattle.p3_challenger.specs.{Kind.Kind, Values.Value, Verdicts.script_of}
+use Rattle.p3_challenger.specs.{Kind.Kind, Values.Value, Verdicts.script_under}
 use Rattle.tealmuze_calls.specs.{Alike.{AreAlike, DescriptionsMeanOne, VerdictsAreSoOfAll, ProvingsAreSoOfAll}}
 use Rattle.tealmuze_calls.specs.{Descriptions.{Describes, kind_number, reading_of}, Told.{TellsOfProof, TellsOfValues}}
 use Rattle.tealmuze_calls.proofs.{Codes.reading-one, Plain.{kind_at, plain_of, plains-one, steps-same}}
@@ -24,14 +23,14 @@ bound-same digest_of {jd} {label} {steps} {others} ids patterns labels =
     ap (λ i. bound digest_of i steps label) ids ∙ ap (λ p. bound digest_of jd p label) patterns
     ∙ ap (λ l. bound digest_of jd others l) labels
 
-seeds-same : {U D : Type 0} (digest_of : List ℕ → List ℕ) (one other : DomainSeparator U D) →
-    separator_of one ≡ separator_of other → SameSeeds digest_of one other
+seeds-same : (digest_of : List ℕ → List ℕ) (one other : HeldSeparator) →
+    contents_of one ≡ contents_of other → SameSeeds digest_of one other
 seeds-same digest_of one other same =
     let id = one.is_identifier in
     let jd = other.is_identifier in
     let ids = id.encoded ∙ ap (λ s. identifier s.version s.name) same ∙ sym jd.encoded in
     let labels = one.is_label.encoded ∙ ap (λ s. label_of s.chunks) same ∙ sym other.is_label.encoded in
-    let patterns : pattern_of one ≡ pattern_of other = ap (λ s. s.pattern) same in
+    let patterns : one.pattern ≡ other.pattern = ap (λ s. s.pattern) same in
     record { seeds = bound-same digest_of ids (ap (λ p. p.steps) patterns) labels; patterns = patterns }
 
 abbrev separator : ℕ → List ℕ → List (List ℕ) → PatternSteps → Separator
@@ -53,7 +52,7 @@ module _ {F EF O : Type 0} (number : F → ℕ) (coefficients : EF → List F) (
     (element_one : (x y : EF) → coefficients x ≡ coefficients y → x ≡ y)
     (opaque_one : (x y : O) → opaque_numbers x ≡ opaque_numbers y → x ≡ y) where
   pub described-plain : {Su U C K Ac D G It St Sy : Type 0} (rules : Rules St Sy It F EF O Ac) (bytes : List ℕ)
-      (one other : DomainSeparator U D) (steps others : List (script.Step Su F EF U O C K Ac D G It St Sy)) →
+      (one other : HeldSeparator) (steps others : List (script.Step Su F EF U O C K Ac D G It St Sy)) →
       Describes number coefficients opaque_numbers AreOpaque rules bytes one steps →
       Describes number coefficients opaque_numbers AreOpaque rules bytes other others → map plain_of steps ≡ map plain_of others
   described-plain rules bytes one other steps others d e =
@@ -64,7 +63,7 @@ module _ {F EF O : Type 0} (number : F → ℕ) (coefficients : EF → List F) (
 
   pub described-alike : (kinds : (k : Kind) → k ≡ kind_at (kind_number k)) {Su U C K Ac D G It St Sy : Type 0}
       (rules : Rules St Sy It F EF O Ac) (bytes : List ℕ)
-      (one other : DomainSeparator U D) (steps others : List (script.Step Su F EF U O C K Ac D G It St Sy)) →
+      (one other : HeldSeparator) (steps others : List (script.Step Su F EF U O C K Ac D G It St Sy)) →
       Describes number coefficients opaque_numbers AreOpaque rules bytes one steps →
       Describes number coefficients opaque_numbers AreOpaque rules bytes other others → AreAlike rules one other steps others
   described-alike kinds rules bytes one other steps others d e =
@@ -73,7 +72,7 @@ module _ {F EF O : Type 0} (number : F → ℕ) (coefficients : EF → List F) (
       let steps_are = steps-same rules kinds number coefficients opaque_numbers AreOpaque steps others d.formed e.formed
       (described-plain rules bytes one other steps others d e) in
       let played = interactions-same (play_of rules) (sides_of rules) steps_are in
-      let separators = separators-same (separator_of one) (separator_of other) (ap (λ r. r.version) same)
+      let separators = separators-same (contents_of one) (contents_of other) (ap (λ r. r.version) same)
       (ap (λ r. r.name) same) (ap (λ r. r.chunks) same) (sym d.played ∙ played ∙ e.played) in
       let seeds = seeds-same rules.digest_of one other separators in
       record {
@@ -90,12 +89,12 @@ module _ {F EF O : Type 0} (number : F → ℕ) (coefficients : EF → List F) (
 -- ---- what is told
 
 module _ {Su F EF U O C K Ac D G It St Sy : Type 0} (rules : Rules St Sy It F EF O Ac) (number : F → ℕ)
-    (coefficients : EF → List F) (one other : DomainSeparator U D)
+    (coefficients : EF → List F) (one other : HeldSeparator)
     (steps others : List (script.Step Su F EF U O C K Ac D G It St Sy)) (alike : AreAlike rules one other steps others)
     (start : St) where
   pub told_of_proof-same : (proof carried told : List ℕ) →
-      TellsOfProof rules number coefficients (script_of start one steps) proof carried told →
-      TellsOfProof rules number coefficients (script_of start other others) proof carried told
+      TellsOfProof rules number coefficients (script_under start one steps) proof carried told →
+      TellsOfProof rules number coefficients (script_under start other others) proof carried told
   told_of_proof-same proof carried [] h = h
   told_of_proof-same proof carried (zero ∷ told) h = record {
     witnesses = h.witnesses;
@@ -120,8 +119,8 @@ module _ {Su F EF U O C K Ac D G It St Sy : Type 0} (rules : Rules St Sy It F EF
   told_of_proof-same proof carried (suc (suc n) ∷ told) h = h
 
   pub told_of_values-same : (sent : List (Value F EF)) (told : List ℕ) →
-      TellsOfValues rules number coefficients (script_of start one steps) sent told →
-      TellsOfValues rules number coefficients (script_of start other others) sent told
+      TellsOfValues rules number coefficients (script_under start one steps) sent told →
+      TellsOfValues rules number coefficients (script_under start other others) sent told
   told_of_values-same sent [] h = h
   told_of_values-same sent (zero ∷ told) h = record {
     narg = h.narg;

@@ -6,7 +6,7 @@ use Rattle.tealmuze_calls.specs.Descriptions.{parts_of, reading_of, step_bytes, 
 use Rattle.tealmuze_calls.specs.Forms.{number_bytes, text_bytes, counted_bytes, listed_bytes}
 use Rattle.tealmuze_calls.specs.Readings.{Parts, parts_bytes, Reading, FitsWord, IsListHeld}
 use Rattle.tealmuze_calls.proofs.{Codes.{text-code, listed-code, number-code, counted-code, parts-code, reading-one}, Lemmas.listed_of}
-use Rattle.p3_challenger.specs.{DomainSeparator.DomainSeparator, PatternSteps.steps_of, Rules.Rules, SeparatorSeed.separator_of}
+use Rattle.p3_challenger.specs.{PatternSteps.steps_of, Rules.Rules, Separators.{HeldSeparator, contents_of}}
 use Rattle.p3_challenger.specs.{Provings.AreHanded, Runs.{AreAdmitted, carried_count, interactions}, Scripts.play_of}
 use Rattle.p3_challenger.specs.Values.{Value}
 use Rattle.tealmuze_calls.proofs.Handed.{same-handed}
@@ -66,31 +66,31 @@ module _ {Su F EF U O C K Ac D G It St Sy : Type 0} (number : F → ℕ) (coeffi
 
 module _ {Su F EF U O C K Ac D G It St Sy : Type 0} (number : F → ℕ) (coefficients : EF → List F)
     (opaque_numbers : O → List ℕ) (AreOpaque : List ℕ → Type 0) (rules : Rules St Sy It F EF O Ac) (bytes : List ℕ)
-    (separator : DomainSeparator U D) (steps : List (script.Step Su F EF U O C K Ac D G It St Sy))
+    (separator : HeldSeparator) (steps : List (script.Step Su F EF U O C K Ac D G It St Sy))
     (described : Describes number coefficients opaque_numbers AreOpaque rules bytes separator steps) where
   abbrev chunk_part : List ℕ
-  chunk_part = listed_bytes counted_bytes (separator_of separator).chunks
+  chunk_part = listed_bytes counted_bytes (contents_of separator).chunks
 
   abbrev step_part : List ℕ
   step_part = listed_bytes parts_bytes (map (parts_of number coefficients opaque_numbers) steps)
 
   pub after_version : (version : ℕ) (a : List ℕ) → bytes ≡ version ∷ a →
-      a ≡ text_bytes (separator_of separator).name ++ (chunk_part ++ step_part)
+      a ≡ text_bytes (contents_of separator).name ++ (chunk_part ++ step_part)
   after_version version a one = let e = sym one ∙ described.encoded in cc e
 
   pub after_name : (version : ℕ) (name a b : List ℕ) → bytes ≡ version ∷ a → a ≡ text_bytes name ++ b →
-      ((separator_of separator).name ≡ name) × (b ≡ chunk_part ++ step_part)
+      ((contents_of separator).name ≡ name) × (b ≡ chunk_part ++ step_part)
   after_name version name a b one two =
-      let both = text-code (separator_of separator).name name (chunk_part ++ step_part) b
+      let both = text-code (contents_of separator).name name (chunk_part ++ step_part) b
       (sym (after_version version a one) ∙ two) in
       (both.0, sym both.1)
 
   pub after_chunks : (version : ℕ) (name a b d : List ℕ) (chunks : List (List ℕ)) → bytes ≡ version ∷ a →
       a ≡ text_bytes name ++ b → b ≡ listed_bytes counted_bytes chunks ++ d →
       IsListHeld (λ chunk. FitsWord (length chunk)) chunks →
-      ((separator_of separator).chunks ≡ chunks) × (d ≡ step_part)
+      ((contents_of separator).chunks ≡ chunks) × (d ≡ step_part)
   after_chunks version name a b d chunks one two three held =
-      let both = listed-code (λ chunk. FitsWord (length chunk)) counted_bytes counted-code (separator_of separator).chunks
+      let both = listed-code (λ chunk. FitsWord (length chunk)) counted_bytes counted-code (contents_of separator).chunks
       chunks step_part d described.held.chunks held (sym (after_name version name a b one two).1 ∙ three) in
       (both.0, sym both.1)
 
@@ -127,7 +127,7 @@ module _ {Su F EF U O C K Ac D G It St Sy : Type 0} (number : F → ℕ) (coeffi
       (read : List (script.Step Su F EF U O C K Ac D G It St Sy)) →
       All (HasForm number coefficients opaque_numbers AreOpaque) read →
       map (parts_of number coefficients opaque_numbers) read ≡ map (parts_of number coefficients opaque_numbers) steps →
-      (interactions (play_of rules) read ≡ steps_of (separator_of separator).pattern) × AreAdmitted (play_of rules) read
+      (interactions (play_of rules) read ≡ steps_of (contents_of separator).pattern) × AreAdmitted (play_of rules) read
   pattern_stands dimension some long read formed same = (
     same-interactions rules dimension number coefficients opaque_numbers AreOpaque some long read steps formed
         described.formed same ∙ described.played,
@@ -139,7 +139,7 @@ module _ {Su F EF U O C K Ac D G It St Sy : Type 0} (number : F → ℕ) (coeffi
 
 module _ {Su F EF U O C K Ac D G It St Sy : Type 0} (number : F → ℕ) (coefficients : EF → List F)
     (opaque_numbers : O → List ℕ) (AreOpaque : List ℕ → Type 0) (rules : Rules St Sy It F EF O Ac) (bytes : List ℕ)
-    (separator other : DomainSeparator U D) (steps others : List (script.Step Su F EF U O C K Ac D G It St Sy))
+    (separator other : HeldSeparator) (steps others : List (script.Step Su F EF U O C K Ac D G It St Sy))
     (described : Describes number coefficients opaque_numbers AreOpaque rules bytes separator steps)
     (others_described : Describes number coefficients opaque_numbers AreOpaque rules bytes other others) where
   pub same_parts : map (parts_of number coefficients opaque_numbers) steps

@@ -3,7 +3,7 @@ use Rattle.std.proofs.Common.{◌≡◌, inl, inr, ℕ, zero, suc, ◌+◌, ◌*
 use Rattle.std.proofs.Common.{◌∙◌, refl, arith, subst}
 use Rattle.std.proofs.lemmas.List.{length-append, length-map, Concat.length-flat_map}
 use Rattle.std.specs.List.{All, flat_map, sum_by}
-use Rattle.p3_challenger.specs.{Rules.Rules, Scripts.play_of, Verdicts.script_of, DomainSeparator.DomainSeparator}
+use Rattle.p3_challenger.specs.{Rules.Rules, Scripts.play_of, Verdicts.script_under, Separators.HeldSeparator}
 use Rattle.p3_challenger.specs.{Fronts.Run, Values.{Value}}
 use Rattle.p3_challenger.specs.Step as script
 use Rattle.p3_challenger.specs.Values as value
@@ -44,7 +44,7 @@ module _ {F EF O Ac I S Symbol : Type 0} (rules : Rules S Symbol I F EF O Ac) (n
   abbrev whole : {Su U C K D G : Type 0} → List (script.Step Su F EF U O C K Ac D G I S Symbol) → ℕ → ℕ
   whole steps len = 1024 + len * 8 + sum_by (λ s. 40 + drawn_room dimension s) steps
 
-  accepted-short : {Su U C K D G : Type 0} (run : Run (script.Step Su F EF U O C K Ac D G I S Symbol) F EF S U D)
+  accepted-short : {Su U C K D G : Type 0} (run : Run (script.Step Su F EF U O C K Ac D G I S Symbol) F EF S)
       (proof carried told : List ℕ) → All (HasForm number coefficients opaque_numbers AreOpaque) run.steps →
       TellsAccepted rules number coefficients run proof carried told → 1 + length told ≤ whole run.steps (length proof)
   accepted-short run proof carried told formed h =
@@ -67,7 +67,7 @@ module _ {F EF O Ac I S Symbol : Type 0} (rules : Rules S Symbol I F EF O Ac) (n
             (listed_bytes (challenge_bytes number coefficients) h.drawn),
       )
 
-  told-short : {Su U C K D G : Type 0} (run : Run (script.Step Su F EF U O C K Ac D G I S Symbol) F EF S U D)
+  told-short : {Su U C K D G : Type 0} (run : Run (script.Step Su F EF U O C K Ac D G I S Symbol) F EF S)
       (proof carried told : List ℕ) → All (HasForm number coefficients opaque_numbers AreOpaque) run.steps →
       TellsOfProof rules number coefficients run proof carried told → length told ≤ whole run.steps (length proof)
   told-short run proof carried [] formed h = absurd h
@@ -81,7 +81,7 @@ module _ {F EF O Ac I S Symbol : Type 0} (rules : Rules S Symbol I F EF O Ac) (n
   )
   told-short run proof carried (suc (suc n) ∷ told) formed h = absurd h
 
-  proved-short : {Su U C K D G : Type 0} (run : Run (script.Step Su F EF U O C K Ac D G I S Symbol) F EF S U D)
+  proved-short : {Su U C K D G : Type 0} (run : Run (script.Step Su F EF U O C K Ac D G I S Symbol) F EF S)
       (sent : List (Value F EF)) (told : List ℕ) → All (HasForm number coefficients opaque_numbers AreOpaque) run.steps →
       TellsProved rules number coefficients run sent told →
       1 + length told ≤ whole run.steps (length (listed_bytes (value_bytes number coefficients) sent))
@@ -112,7 +112,7 @@ module _ {F EF O Ac I S Symbol : Type 0} (rules : Rules S Symbol I F EF O Ac) (n
         length-append (listed_bytes scalar h.carried) (listed_bytes (challenge_bytes number coefficients) h.drawn),
       )
 
-  values-short : {Su U C K D G : Type 0} (run : Run (script.Step Su F EF U O C K Ac D G I S Symbol) F EF S U D)
+  values-short : {Su U C K D G : Type 0} (run : Run (script.Step Su F EF U O C K Ac D G I S Symbol) F EF S)
       (sent : List (Value F EF)) (told : List ℕ) → All (HasForm number coefficients opaque_numbers AreOpaque) run.steps →
       TellsOfValues rules number coefficients run sent told →
       length told ≤ whole run.steps (length (listed_bytes (value_bytes number coefficients) sent))
@@ -163,7 +163,7 @@ module _ (Su U C K D G : Type 0) {F EF O Ac I S Symbol : Type 0} (rules : Rules 
       (λ steps. room steps len) wanted
 
   -- two readings have as many steps, and these draw as much
-  same_room : (description : List ℕ) (one other : DomainSeparator U D)
+  same_room : (description : List ℕ) (one other : HeldSeparator)
       (steps others : List (script.Step Su F EF U O C K Ac D G I S Symbol)) →
       Describes number coefficients opaque_numbers AreOpaque rules description one steps →
       Describes number coefficients opaque_numbers AreOpaque rules description other others →
@@ -193,7 +193,7 @@ module _ (Su U C K D G : Type 0) {F EF O Ac I S Symbol : Type 0} (rules : Rules 
         room_is wants.steps (length proof),
         same_room description says.separator wants.separator says.steps wants.steps says.describes wants.describes,
         told-short rules number coefficients opaque_numbers AreOpaque dimension long coded some short witness_short
-            (script_of says.start says.separator says.steps) proof carried told says.describes.formed says.tells,
+            (script_under says.start says.separator says.steps) proof carried told says.describes.formed says.tells,
       )) (least_wanted description (length proof)) (one_wanted description (length proof))
 
   pub room_for_values : (IsFresh : S → Type 0) (description values : List ℕ) (IsAsked : Type 0) → RoomSuffices
@@ -209,5 +209,5 @@ module _ (Su U C K D G : Type 0) {F EF O Ac I S Symbol : Type 0} (rules : Rules 
         same_room description says.separator wants.separator says.steps wants.steps says.describes wants.describes,
         ap (λ bytes. length bytes) says.tells.encoded,
         values-short rules number coefficients opaque_numbers AreOpaque dimension long coded some short witness_short
-            (script_of says.start says.separator says.steps) says.tells.values told says.describes.formed says.tells.tells,
+            (script_under says.start says.separator says.steps) says.tells.values told says.describes.formed says.tells.tells,
       )) (least_wanted description (length values)) (one_wanted description (length values))

@@ -1,6 +1,6 @@
 -- Steps with equal plays and refusals, under separators with equal seeds and patterns, have the same runs and verdicts.
 use Rattle.std.proofs.Common.{◌≡◌, inl, inr, ℕ, suc, List, [], ◌∷◌, ◌++◌, length, take, IsSome, false, refl, sym, ap, ◌∙◌, subst}
-use Rattle.p3_challenger.specs.{SeparatorSeed.{pattern_of, seed_of_separator}, DomainSeparator.DomainSeparator}
+use Rattle.p3_challenger.specs.{SeparatorSeed.seed_of, Separators.HeldSeparator}
 use Rattle.p3_challenger.specs.{Driving.{Driving, RefusesStart}, Errors.pattern_error_of, Observation.observed_all}
 use Rattle.p3_challenger.specs.{Fronts.{IsFinished, IsWhole, AreLeast}, PatternSteps.PatternSteps, Plays.{Play, Place}}
 use Rattle.p3_challenger.specs.{Playing.{FaultOfPlayEnd, IsPatternError}, Rules.Rules, Sides.Sides, Stepping.{IsCarriedTo, OrHalts}}
@@ -9,7 +9,7 @@ use Rattle.p3_challenger.specs.Provings.{IsProved, IsProverRun, RefusesToProve, 
 use Rattle.p3_challenger.specs.Runs.{interactions, wires, picked, after, challenges, Finishes, AreChosen, if_drawn}
 use Rattle.p3_challenger.specs.Runs.{if_carried, if_in_proof, if_sent, if_witness}
 use Rattle.p3_challenger.specs.Verdicts.{Accepts, HasNoProof, IsProof, IsOutcome, RefusesProof, RefusesAtStep, RefusesAtEnd}
-use Rattle.p3_challenger.specs.Verdicts.{driving_after, playing_after, script_of, with_steps}
+use Rattle.p3_challenger.specs.Verdicts.{driving_after, playing_after, script_under, with_steps}
 use Rattle.p3_challenger.specs.Fronts as front
 
 -- ---- steps
@@ -110,11 +110,11 @@ module _ {X S Symbol F EF O : Type 0} (play : X → Play S Symbol F EF O) (sides
 -- ---- scripts
 
 -- separators bind transcripts to the same seed and the same pattern
-pub record SameSeeds {U D : Type 0} (digest_of : List ℕ → List ℕ) (one other : DomainSeparator U D) : Type 0 where
-  pub seeds : seed_of_separator digest_of one ≡ seed_of_separator digest_of other
-  pub patterns : pattern_of one ≡ pattern_of other
+pub record SameSeeds (digest_of : List ℕ → List ℕ) (one other : HeldSeparator) : Type 0 where
+  pub seeds : seed_of digest_of one ≡ seed_of digest_of other
+  pub patterns : one.pattern ≡ other.pattern
 
-pub seeds-turned : {U D : Type 0} {digest_of : List ℕ → List ℕ} {one other : DomainSeparator U D} →
+pub seeds-turned : {digest_of : List ℕ → List ℕ} {one other : HeldSeparator} →
     SameSeeds digest_of one other → SameSeeds digest_of other one
 seeds-turned same = record { seeds = sym same.seeds; patterns = sym same.patterns }
 
@@ -127,34 +127,34 @@ driving challenger pattern position bytes = record {
   bytes = bytes;
 }
 
-module _ {X S Symbol I F EF O Ac U D : Type 0} (rules : Rules S Symbol I F EF O Ac) (play : X → Play S Symbol F EF O)
-    (sides : X → Sides S F EF) {one other : DomainSeparator U D} (seeds : SameSeeds rules.digest_of one other) (start : S)
+module _ {X S Symbol I F EF O Ac : Type 0} (rules : Rules S Symbol I F EF O Ac) (play : X → Play S Symbol F EF O)
+    (sides : X → Sides S F EF) {one other : HeldSeparator} (seeds : SameSeeds rules.digest_of one other) (start : S)
     {xs ys : List X} (same : AreSame play sides xs ys) where
-  seeded-same : (vs : List (Value F EF)) → front.seeded rules play (with_steps (script_of start one xs) xs vs)
-      ≡ front.seeded rules play (with_steps (script_of start other ys) ys vs)
+  seeded-same : (vs : List (Value F EF)) → front.seeded rules play (with_steps (script_under start one xs) xs vs)
+      ≡ front.seeded rules play (with_steps (script_under start other ys) ys vs)
   seeded-same vs = ap (λ bytes. observed_all rules.alphabet.item.observed start (rules.alphabet.items bytes)) seeds.seeds
 
-  finished-same : (vs : List (Value F EF)) → IsFinished rules play (with_steps (script_of start one xs) xs vs) →
-      IsFinished rules play (with_steps (script_of start other ys) ys vs)
+  finished-same : (vs : List (Value F EF)) → IsFinished rules play (with_steps (script_under start one xs) xs vs) →
+      IsFinished rules play (with_steps (script_under start other ys) ys vs)
   finished-same vs h = record {
     in_pattern = sym (interactions-same play sides same) ∙ h.in_pattern
-        ∙ ap (λ n. take n (pattern_of one).steps) (lengths-same play sides same)
+        ∙ ap (λ n. take n one.pattern.steps) (lengths-same play sides same)
         ∙ ap (λ p. take (length ys) p.steps) seeds.patterns;
     seed_fits = λ long. h.seed_fits (subst (λ bytes. rules.alphabet.is_too_long (length bytes)) (sym seeds.seeds) long);
     finishes = subst (λ s. Finishes play ys vs s) (seeded-same vs) (finishes-same play sides same vs _ h.finishes);
   }
 
-  least-same : (vs : List (Value F EF)) → AreLeast rules play (with_steps (script_of start one xs) xs vs) →
-      AreLeast rules play (with_steps (script_of start other ys) ys vs)
+  least-same : (vs : List (Value F EF)) → AreLeast rules play (with_steps (script_under start one xs) xs vs) →
+      AreLeast rules play (with_steps (script_under start other ys) ys vs)
   least-same vs h = subst (λ s. AreChosen play ys vs s) (seeded-same vs) (chosen-same play sides same vs _ h)
 
-  whole-same : (vs : List (Value F EF)) → IsWhole rules play (with_steps (script_of start one xs) xs vs) →
-      IsWhole rules play (with_steps (script_of start other ys) ys vs)
+  whole-same : (vs : List (Value F EF)) → IsWhole rules play (with_steps (script_under start one xs) xs vs) →
+      IsWhole rules play (with_steps (script_under start other ys) ys vs)
   whole-same vs h = sym (interactions-same play sides same) ∙ h ∙ ap (λ p. p.steps) seeds.patterns
 
   proof-same : (vs : List (Value F EF)) (bytes : List ℕ) (witnesses : List F) →
-      IsProof rules play (with_steps (script_of start one xs) xs vs) bytes witnesses →
-      IsProof rules play (with_steps (script_of start other ys) ys vs) bytes witnesses
+      IsProof rules play (with_steps (script_under start one xs) xs vs) bytes witnesses →
+      IsProof rules play (with_steps (script_under start other ys) ys vs) bytes witnesses
   proof-same vs bytes witnesses h = record {
     finished = finished-same vs h.finished;
     whole = whole-same vs h.whole;
@@ -162,17 +162,17 @@ module _ {X S Symbol I F EF O Ac U D : Type 0} (rules : Rules S Symbol I F EF O 
     carries = h.carries ∙ picked-same play sides if_carried same vs;
   }
 
-  drawn-same : (vs : List (Value F EF)) → front.challenges rules play (with_steps (script_of start one xs) xs vs)
-      ≡ front.challenges rules play (with_steps (script_of start other ys) ys vs)
+  drawn-same : (vs : List (Value F EF)) → front.challenges rules play (with_steps (script_under start one xs) xs vs)
+      ≡ front.challenges rules play (with_steps (script_under start other ys) ys vs)
   drawn-same vs = challenges-same play sides same vs _ ∙ ap (λ s. challenges play ys vs s) (seeded-same vs)
 
-  end-same : (vs : List (Value F EF)) → front.last rules play (with_steps (script_of start one xs) xs vs)
-      ≡ front.last rules play (with_steps (script_of start other ys) ys vs)
+  end-same : (vs : List (Value F EF)) → front.last rules play (with_steps (script_under start one xs) xs vs)
+      ≡ front.last rules play (with_steps (script_under start other ys) ys vs)
   end-same vs = after-same play sides same vs _ ∙ ap (λ s. after play ys vs s) (seeded-same vs)
 
   outcome-same : (vs received : List (Value F EF)) (drawn : List (Challenge F EF)) (end : S) →
-      IsOutcome rules play (with_steps (script_of start one xs) xs vs) received drawn end →
-      IsOutcome rules play (with_steps (script_of start other ys) ys vs) received drawn end
+      IsOutcome rules play (with_steps (script_under start one xs) xs vs) received drawn end →
+      IsOutcome rules play (with_steps (script_under start other ys) ys vs) received drawn end
   outcome-same vs received drawn end h = record {
     received_is = h.received_is ∙ picked-same play sides if_in_proof same vs;
     drawn_is = h.drawn_is ∙ drawn-same vs;
@@ -180,8 +180,8 @@ module _ {X S Symbol I F EF O Ac U D : Type 0} (rules : Rules S Symbol I F EF O 
   }
 
   prover_run-same : (sent vs : List (Value F EF)) →
-      IsProverRun rules play (with_steps (script_of start one xs) xs vs) sent →
-      IsProverRun rules play (with_steps (script_of start other ys) ys vs) sent
+      IsProverRun rules play (with_steps (script_under start one xs) xs vs) sent →
+      IsProverRun rules play (with_steps (script_under start other ys) ys vs) sent
   prover_run-same sent vs h = record {
     finished = finished-same vs h.finished;
     whole = whole-same vs h.whole;
@@ -191,8 +191,8 @@ module _ {X S Symbol I F EF O Ac U D : Type 0} (rules : Rules S Symbol I F EF O 
 
   pub proved-same : (sent : List (Value F EF)) (narg : List ℕ) (witnesses carried : List F)
       (drawn : List (Challenge F EF)) (end : S) →
-      IsProved rules play (script_of start one xs) sent narg witnesses carried drawn end →
-      IsProved rules play (script_of start other ys) sent narg witnesses carried drawn end
+      IsProved rules play (script_under start one xs) sent narg witnesses carried drawn end →
+      IsProved rules play (script_under start other ys) sent narg witnesses carried drawn end
   proved-same sent narg witnesses carried drawn end h = record {
     values = h.values;
     outcome = record {
@@ -207,23 +207,23 @@ module _ {X S Symbol I F EF O Ac U D : Type 0} (rules : Rules S Symbol I F EF O 
 
   -- ---- where and why they are refused
 
-  playing-same : (vs : List (Value F EF)) → playing_after (with_steps (script_of start one xs) xs vs)
-      ≡ playing_after (with_steps (script_of start other ys) ys vs)
+  playing-same : (vs : List (Value F EF)) → playing_after (with_steps (script_under start one xs) xs vs)
+      ≡ playing_after (with_steps (script_under start other ys) ys vs)
   playing-same vs = ap (λ p. record { pattern = p; position = length xs; finished = false }) seeds.patterns
-      ∙ ap (λ n. record { pattern = pattern_of other; position = n; finished = false }) (lengths-same play sides same)
+      ∙ ap (λ n. record { pattern = other.pattern; position = n; finished = false }) (lengths-same play sides same)
 
   driving-same : (vs : List (Value F EF)) (bytes : List ℕ) →
-      driving_after rules play (with_steps (script_of start one xs) xs vs) bytes
-      ≡ driving_after rules play (with_steps (script_of start other ys) ys vs) bytes
-  driving-same vs bytes = ap (λ s. driving s (pattern_of one) (length xs) bytes) (end-same vs)
-      ∙ ap (λ p. driving (front.last rules play (with_steps (script_of start other ys) ys vs)) p (length xs) bytes)
+      driving_after rules play (with_steps (script_under start one xs) xs vs) bytes
+      ≡ driving_after rules play (with_steps (script_under start other ys) ys vs) bytes
+  driving-same vs bytes = ap (λ s. driving s one.pattern (length xs) bytes) (end-same vs)
+      ∙ ap (λ p. driving (front.last rules play (with_steps (script_under start other ys) ys vs)) p (length xs) bytes)
       seeds.patterns
-      ∙ ap (λ n. driving (front.last rules play (with_steps (script_of start other ys) ys vs)) (pattern_of other) n bytes)
+      ∙ ap (λ n. driving (front.last rules play (with_steps (script_under start other ys) ys vs)) other.pattern n bytes)
       (lengths-same play sides same)
 
   end_refused-same : (bytes : List ℕ) (witnesses : List F) (position : ℕ) (e : TranscriptError) →
-      RefusesAtEnd rules play (script_of start one xs) bytes witnesses position e →
-      RefusesAtEnd rules play (script_of start other ys) bytes witnesses position e
+      RefusesAtEnd rules play (script_under start one xs) bytes witnesses position e →
+      RefusesAtEnd rules play (script_under start other ys) bytes witnesses position e
   end_refused-same bytes witnesses position e h = record {
     place = h.place ∙ lengths-same play sides same;
     values = h.values;
@@ -235,8 +235,8 @@ module _ {X S Symbol I F EF O Ac U D : Type 0} (rules : Rules S Symbol I F EF O 
   }
 
   end_unproved-same : (sent : List (Value F EF)) (position : ℕ) (e : TranscriptError) →
-      RefusesToProveEnd rules play (script_of start one xs) sent position e →
-      RefusesToProveEnd rules play (script_of start other ys) sent position e
+      RefusesToProveEnd rules play (script_under start one xs) sent position e →
+      RefusesToProveEnd rules play (script_under start other ys) sent position e
   end_unproved-same sent position e h = record {
     place = h.place ∙ lengths-same play sides same;
     values = h.values;
@@ -247,12 +247,12 @@ module _ {X S Symbol I F EF O Ac U D : Type 0} (rules : Rules S Symbol I F EF O 
   }
 
 -- what is so of prefixes, and the other way round
-module _ {X S Symbol I F EF O Ac U D : Type 0} (rules : Rules S Symbol I F EF O Ac) (play : X → Play S Symbol F EF O)
-    (sides : X → Sides S F EF) {one other : DomainSeparator U D} (seeds : SameSeeds rules.digest_of one other) (start : S)
+module _ {X S Symbol I F EF O Ac : Type 0} (rules : Rules S Symbol I F EF O Ac) (play : X → Play S Symbol F EF O)
+    (sides : X → Sides S F EF) {one other : HeldSeparator} (seeds : SameSeeds rules.digest_of one other) (start : S)
     {xs ys : List X} (same : AreSame play sides xs ys) where
   pub accepts-same : (bytes : List ℕ) (witnesses : List F) (received : List (Value F EF)) (drawn : List (Challenge F EF))
-      (end : S) → Accepts rules play (script_of start one xs) bytes witnesses received drawn end →
-      Accepts rules play (script_of start other ys) bytes witnesses received drawn end
+      (end : S) → Accepts rules play (script_under start one xs) bytes witnesses received drawn end →
+      Accepts rules play (script_under start other ys) bytes witnesses received drawn end
   accepts-same bytes witnesses received drawn end h = record {
     values = h.values;
     proof = proof-same rules play sides seeds start same h.values bytes witnesses h.proof;
@@ -262,24 +262,24 @@ module _ {X S Symbol I F EF O Ac U D : Type 0} (rules : Rules S Symbol I F EF O 
   }
 
   pub none-same : (bytes : List ℕ) (witnesses : List F) →
-      HasNoProof rules play (script_of start one xs) bytes witnesses →
-      HasNoProof rules play (script_of start other ys) bytes witnesses
+      HasNoProof rules play (script_under start one xs) bytes witnesses →
+      HasNoProof rules play (script_under start other ys) bytes witnesses
   none-same bytes witnesses h vs is =
       h vs (proof-same rules play sides (seeds-turned seeds) start (turned play sides same) vs bytes witnesses is)
 
   pub none_proved-same : (sent : List (Value F EF)) →
-      ((vs : List (Value F EF)) → IsProverRun rules play (with_steps (script_of start one xs) xs vs) sent → ⊥) →
-      (vs : List (Value F EF)) → IsProverRun rules play (with_steps (script_of start other ys) ys vs) sent → ⊥
+      ((vs : List (Value F EF)) → IsProverRun rules play (with_steps (script_under start one xs) xs vs) sent → ⊥) →
+      (vs : List (Value F EF)) → IsProverRun rules play (with_steps (script_under start other ys) ys vs) sent → ⊥
   none_proved-same sent h vs is =
       h vs (prover_run-same rules play sides (seeds-turned seeds) start (turned play sides same) sent vs is)
 
   step_refused-same : (bytes : List ℕ) (witnesses : List F) (position : ℕ) (e : TranscriptError) →
-      RefusesAtStep rules play sides (script_of start one xs) bytes witnesses position e →
-      RefusesAtStep rules play sides (script_of start other ys) bytes witnesses position e
+      RefusesAtStep rules play sides (script_under start one xs) bytes witnesses position e →
+      RefusesAtStep rules play sides (script_under start other ys) bytes witnesses position e
   step_refused-same bytes witnesses position e h =
       let there = splits play sides h.before h.step h.later (subst (λ l. AreSame play sides l ys) h.steps same) in
       let vs = h.values in
-      let here = driving_after rules play (with_steps (script_of start other there.front) there.front vs) h.left in
+      let here = driving_after rules play (with_steps (script_under start other there.front) there.front vs) h.left in
       let refuses = subst (λ d. OrHalts ((sides h.step).verifier h.witness) d e h.after)
       (driving-same rules play sides seeds start there.same vs h.left) h.refuses in
       record {
@@ -302,16 +302,16 @@ module _ {X S Symbol I F EF O Ac U D : Type 0} (rules : Rules S Symbol I F EF O 
       }
 
   step_unproved-same : (sent : List (Value F EF)) (position : ℕ) (e : TranscriptError) →
-      RefusesToProveStep rules play sides (script_of start one xs) sent position e →
-      RefusesToProveStep rules play sides (script_of start other ys) sent position e
+      RefusesToProveStep rules play sides (script_under start one xs) sent position e →
+      RefusesToProveStep rules play sides (script_under start other ys) sent position e
   step_unproved-same sent position e h =
       let there = splits play sides h.before h.step h.later (subst (λ l. AreSame play sides l ys) h.steps same) in
       let vs = h.values in
-      let here = driving_after rules play (with_steps (script_of start other there.front) there.front vs)
+      let here = driving_after rules play (with_steps (script_under start other there.front) there.front vs)
       (wires play there.front vs) in
       let refuses = subst (λ d. OrHalts ((sides h.step).prover h.given) d e h.after)
       (driving-same rules play sides seeds start there.same vs (wires play h.before vs)
-      ∙ ap (λ wire. driving_after rules play (with_steps (script_of start other there.front) there.front vs) wire)
+      ∙ ap (λ wire. driving_after rules play (with_steps (script_under start other there.front) there.front vs) wire)
       (wires-same play sides there.same vs)) h.refuses in
       record {
         before = there.front;
@@ -333,8 +333,8 @@ module _ {X S Symbol I F EF O Ac U D : Type 0} (rules : Rules S Symbol I F EF O 
       }
 
   pub refused-same : (bytes : List ℕ) (witnesses : List F) (position : ℕ) (e : TranscriptError) →
-      RefusesProof rules play sides (script_of start one xs) bytes witnesses position e →
-      RefusesProof rules play sides (script_of start other ys) bytes witnesses position e
+      RefusesProof rules play sides (script_under start one xs) bytes witnesses position e →
+      RefusesProof rules play sides (script_under start other ys) bytes witnesses position e
   refused-same bytes witnesses position e = elim [
     | inl (place, why) ↦ inl (place, subst (λ seed. RefusesStart (rules.alphabet.is_too_long (length seed)) e) seeds.seeds why)
     | inr (inl h) ↦ inr (inl (step_refused-same bytes witnesses position e h))
@@ -342,8 +342,8 @@ module _ {X S Symbol I F EF O Ac U D : Type 0} (rules : Rules S Symbol I F EF O 
   ]
 
   pub unproved-same : (sent : List (Value F EF)) (position : ℕ) (e : TranscriptError) →
-      RefusesToProve rules play sides (script_of start one xs) sent position e →
-      RefusesToProve rules play sides (script_of start other ys) sent position e
+      RefusesToProve rules play sides (script_under start one xs) sent position e →
+      RefusesToProve rules play sides (script_under start other ys) sent position e
   unproved-same sent position e = elim [
     | inl (place, why) ↦ inl (place, subst (λ seed. RefusesStart (rules.alphabet.is_too_long (length seed)) e) seeds.seeds why)
     | inr (inl h) ↦ inr (inl (step_unproved-same sent position e h))

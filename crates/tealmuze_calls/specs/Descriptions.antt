@@ -1,7 +1,7 @@
 -- What the bytes of a description describe.
 use Rattle.std.specs.Prelude.{◌≡◌, ℕ, List, [], ◌∷◌, ◌++◌, map, flat_map}
 use Rattle.std.specs.{List.All, Str.IsUtf8}
-use Rattle.p3_challenger.specs.{SeparatorSeed.separator_of, DomainSeparator.DomainSeparator}
+use Rattle.p3_challenger.specs.{Separators.{HeldSeparator, contents_of}}
 use Rattle.p3_challenger.specs.Kind.{Kind}
 use Rattle.p3_challenger.specs.PatternSteps.{steps_of}
 use Rattle.p3_challenger.specs.{Rules.Rules, Runs.{AreAdmitted, interactions}}
@@ -74,8 +74,8 @@ module _ {Su F EF U O C K Ac D G It St Sy : Type 0} (number : F → ℕ) (coeffi
   HasHeldParts s = IsListHeld FitsWord (parts_of s).numbers
 
   -- what a description says of a protocol
-  abbrev pub reading_of : DomainSeparator U D → List (script.Step Su F EF U O C K Ac D G It St Sy) → Reading
-  reading_of separator steps = let s = separator_of separator in
+  abbrev pub reading_of : HeldSeparator → List (script.Step Su F EF U O C K Ac D G It St Sy) → Reading
+  reading_of separator steps = let s = contents_of separator in
       record { version = s.version; name = s.name; chunks = s.chunks; steps = map parts_of steps }
 
 module _ {Su F EF U O C K Ac D G It St Sy : Type 0} (number : F → ℕ) (coefficients : EF → List F)
@@ -110,11 +110,11 @@ module _ {Su F EF U O C K Ac D G It St Sy : Type 0} (number : F → ℕ) (coeffi
   -- The bytes after the suite describe these steps under this separator: they say its version, its name, the chunks of
   -- its instance's label, and the steps, each of which has a form and may be played; its pattern is theirs. The name and
   -- the labels are texts.
-  pub record Describes (rules : Rules St Sy It F EF O Ac) (bytes : List ℕ) (separator : DomainSeparator U D)
+  pub record Describes (rules : Rules St Sy It F EF O Ac) (bytes : List ℕ) (separator : HeldSeparator)
       (steps : List (script.Step Su F EF U O C K Ac D G It St Sy)) : Type 0 where
     pub encoded : bytes ≡ reading_bytes (reading_of number coefficients opaque_numbers separator steps)
     pub texts : AreTexts (reading_of number coefficients opaque_numbers separator steps)
     pub held : IsHeld (reading_of number coefficients opaque_numbers separator steps)
     pub formed : All HasForm steps
-    pub played : interactions (play_of rules) steps ≡ steps_of (separator_of separator).pattern
+    pub played : interactions (play_of rules) steps ≡ steps_of (contents_of separator).pattern
     pub admitted : AreAdmitted (play_of rules) steps

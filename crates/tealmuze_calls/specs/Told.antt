@@ -1,9 +1,9 @@
 -- What an answer says.
 use Rattle.std.specs.{Prelude.{◌≡◌, ℕ, zero, suc, ◌<◌, ◌≤◌, List, ◌∷◌, ◌++◌, length, map}, List.All}
-use Rattle.p3_challenger.specs.DomainSeparator.{DomainSeparator}
+use Rattle.p3_challenger.specs.Separators.{HeldSeparator}
 use Rattle.p3_challenger.specs.TranscriptError.{TranscriptError, TheVariants.OutOfMemory}
 use Rattle.p3_challenger.specs.{Fronts.Run, Provings.{IsProved, RefusesToProve, IsProverRun}, Rules.Rules}
-use Rattle.p3_challenger.specs.{Values.{Value, Challenge}, Verdicts.{Accepts, HasNoProof, RefusesProof, script_of, with_steps}}
+use Rattle.p3_challenger.specs.{Values.{Value, Challenge}, Verdicts.{Accepts, HasNoProof, RefusesProof, script_under, with_steps}}
 use Rattle.p3_challenger.specs.{Scripts.play_of, ScriptRefusals.sides_of, Fault.Fault}
 use Rattle.tealmuze_calls.specs.Descriptions.{Describes}
 use Rattle.tealmuze_calls.specs.Forms.{number_bytes, counted_bytes, listed_bytes, scalar_bytes, value_bytes, challenge_bytes}
@@ -24,7 +24,7 @@ pub record TellsFault (fault : Fault) (bytes : List ℕ) : Type 0 where
   pub told_is : bytes ≡ 1 ∷ (number_bytes fault.position ++ reason)
 
 module _ {Su F EF U O C K Ac D G It St Sy : Type 0} (rules : Rules St Sy It F EF O Ac) (number : F → ℕ)
-    (coefficients : EF → List F) (run : Run (script.Step Su F EF U O C K Ac D G It St Sy) F EF St U D) where
+    (coefficients : EF → List F) (run : Run (script.Step Su F EF U O C K Ac D G It St Sy) F EF St) where
   -- The proof is accepted, with these witnesses carried; and what follows the verdict is what was received, in order, and
   -- what was drawn.
   pub record TellsAccepted (proof : List ℕ) (carried : List ℕ) (told : List ℕ) : Type 0 where
@@ -88,18 +88,18 @@ module _ (Su U C K D G : Type 0) {F EF O Ac It St Sy : Type 0} (rules : Rules St
     (coefficients : EF → List F) (opaque_numbers : O → List ℕ) (AreOpaque : List ℕ → Type 0) where
   -- The bytes describe a protocol, and of its script, from a state of a challenger that observed nothing, this is told.
   pub record TellsOfDescribed (IsFresh : St → Type 0) (bytes : List ℕ)
-      (Tells : Run (script.Step Su F EF U O C K Ac D G It St Sy) F EF St U D → Type 0) : Type 0 where
+      (Tells : Run (script.Step Su F EF U O C K Ac D G It St Sy) F EF St → Type 0) : Type 0 where
     pub start : St
     pub fresh : IsFresh start
-    pub separator : DomainSeparator U D
+    pub separator : HeldSeparator
     pub steps : List (script.Step Su F EF U O C K Ac D G It St Sy)
     pub describes : Describes number coefficients opaque_numbers AreOpaque rules bytes separator steps
-    pub tells : Tells (script_of start separator steps)
+    pub tells : Tells (script_under start separator steps)
 
   -- The bytes describe a protocol, and of its steps this is so.
   pub record DescribesSome (bytes : List ℕ) (Is : List (script.Step Su F EF U O C K Ac D G It St Sy) → Type 0) :
       Type 0 where
-    pub separator : DomainSeparator U D
+    pub separator : HeldSeparator
     pub steps : List (script.Step Su F EF U O C K Ac D G It St Sy)
     pub describes : Describes number coefficients opaque_numbers AreOpaque rules bytes separator steps
     pub such : Is steps
@@ -107,7 +107,7 @@ module _ (Su U C K D G : Type 0) {F EF O Ac It St Sy : Type 0} (rules : Rules St
   -- The bytes describe a protocol, and for an answer of its steps so many bytes are wanted.
   pub record WantsForDescribed (bytes : List ℕ)
       (room : List (script.Step Su F EF U O C K Ac D G It St Sy) → ℕ) (wanted : ℕ) : Type 0 where
-    pub separator : DomainSeparator U D
+    pub separator : HeldSeparator
     pub steps : List (script.Step Su F EF U O C K Ac D G It St Sy)
     pub describes : Describes number coefficients opaque_numbers AreOpaque rules bytes separator steps
     pub wanted_is : wanted ≡ room steps

@@ -99,7 +99,8 @@ pub fn put_received<S: Suite>(
     Ok(())
 }
 
-fn put_value<S: Suite>(to: &mut Vec<u8>, value: &Received<'_, S>) -> Result<(), AllocError>
+/// Adds a value.
+pub fn put_value<S: Suite>(to: &mut Vec<u8>, value: &Received<'_, S>) -> Result<(), AllocError>
     ensures { OnOk result (to.new.items ≡ to.old.items
         ++ value_bytes S.Field.residues.number S.Extension.coefficients (value_received value.now)) }
 {
@@ -140,7 +141,8 @@ pub fn put_challenges<S: Suite>(to: &mut Vec<u8>, challenges: &[Drawn<S>]) -> Re
     Ok(())
 }
 
-fn put_challenge<S: Suite>(to: &mut Vec<u8>, drawn: &Drawn<S>) -> Result<(), AllocError>
+/// Adds what was drawn at a step.
+pub fn put_challenge<S: Suite>(to: &mut Vec<u8>, drawn: &Drawn<S>) -> Result<(), AllocError>
     ensures { OnOk result (to.new.items ≡ to.old.items
         ++ challenge_bytes S.Field.residues.number S.Extension.coefficients (challenge_of drawn.now)) }
 {

@@ -4,7 +4,7 @@ ghost use Rattle.tealmuze_calls.specs.Rooms.{room_for};
 ghost use Rattle.p3_challenger.specs.{Provings.AreHanded, Runs.carried_count, Scripts.play_of};
 ghost use Rattle.tealmuze_calls.specs.Told.{TellsOfProof, TellsOfValues, TellsOfDescribed, EncodesValues, WantsForDescribed};
 ghost use Rattle.tealmuze_calls.specs.{Descriptions.Describes, Told.{CanBeCarried, DescribesSome, EncodesSendable}};
-ghost use Rattle.p3_challenger.specs.{DomainSeparator.{DomainSeparator}, Step.{Step as Steps}};
+ghost use Rattle.p3_challenger.specs.{Separators.{HeldSeparator}, Step.{Step as Steps}};
 
 use crate::suites::Called;
 use p3_challenger::Sponge;
@@ -15,7 +15,7 @@ use p3_field::{BasedVectorSpace, PrimeCharacteristicRing};
 /// how many coefficients a scalar has over its own field, which a member of an impl cannot name.
 pub trait Calls: Called {
     // The protocol with this separator and these steps is the one that is described.
-    ghost describes: { ℕ → List ℕ → DomainSeparator Self.Unit Self.Digest → List (Steps Self Self.Field Self.Extension
+    ghost describes: { ℕ → List ℕ → HeldSeparator → List (Steps Self Self.Field Self.Extension
         Self.Unit Self.Opaque Self.Challenger Self.Codec Self.Accept Self.Digest Self.Group Self.Unit.Item
         Self.Challenger.State Self.Challenger.Symbol) → Type 0 };
 

@@ -1,7 +1,7 @@
 //! A protocol, as its description has it.
 ghost use Rattle.std.specs.Prelude.{◌≡◌, ℕ, List, ◌++◌, length, map, IfOk, IfErr};
 ghost use Rattle.p3_challenger.specs.{PatternSteps.steps_of, Runs.{AreAdmitted, interactions}, Scripts.play_of};
-ghost use Rattle.p3_challenger.specs.SeparatorSeed.{separator_of};
+ghost use Rattle.p3_challenger.specs.{Separators.contents_of, SeparatorSeed.{held_of, separator_of}};
 ghost use Rattle.p3_challenger.specs.TranscriptError.TheVariants as fault;
 ghost use Rattle.tealmuze_calls.specs.{Forms.{counted_bytes, listed_bytes}, Readings.{FitsWord, IsListHeld}};
 ghost use Rattle.tealmuze_calls.specs.Descriptions.{Describes, IsRead, AreRead};
@@ -31,8 +31,8 @@ impl<S: Called> Protocol<S> {
     pub fn parse(alloc: Global, from: Cursor<'static>) -> Result<Protocol<S>, Unanswered>
         ensures ok { IfOk result (λ protocol. Describes S.Field.residues.number S.Extension.coefficients
             S.opaque_numbers S.are_opaque (⟦<S as Meaning>⟧.rules S.Field.DIMENSION) from.entry.left.now
-            protocol.separator protocol.steps.items) }
-        ensures err { FailsOnlyWithNone result (λ protocol. both protocol.separator protocol.steps.items)
+            (held_of protocol.separator) protocol.steps.items) }
+        ensures err { FailsOnlyWithNone result (λ protocol. both (held_of protocol.separator) protocol.steps.items)
             (λ protocol. Describes S.Field.residues.number S.Extension.coefficients S.opaque_numbers S.are_opaque
             (⟦<S as Meaning>⟧.rules S.Field.DIMENSION) from.entry.left.now protocol.0 protocol.1) }
     {
@@ -153,9 +153,9 @@ fn separate<S: Called>(
       chunks = map (λ chunk. chunk.now) chunks.now;
       pattern = pattern;
     }) }
-    ensures err { FailsOnlyWithNone result (λ separator. separator) (λ separator.
-        ((separator_of separator).name ≡ name.now)
-        × ((separator_of separator).chunks ≡ map (λ chunk. chunk.now) chunks.now)) }
+    ensures err { FailsOnlyWithNone result (λ separator. held_of separator) (λ held.
+        ((contents_of held).name ≡ name.now)
+        × ((contents_of held).chunks ≡ map (λ chunk. chunk.now) chunks.now)) }
 {
     if name.is_empty() || name.len() > 62 {
         return Err(Unanswered::Name);

@@ -1,5 +1,6 @@
 //! A protocol that is read once, for many proofs.
 ghost use Rattle.std.specs.Prelude.{ℕ, List, IfOk, IfErr};
+ghost use Rattle.p3_challenger.specs.SeparatorSeed.{held_of};
 ghost use Rattle.tealmuze_calls.specs.{Errors.IsDueTo, Written.IsOfSuite};
 ghost use Rattle.tealmuze_calls.specs.declared.prepared.Prepared.TheVariants as of;
 
@@ -46,21 +47,21 @@ pub trait Described {
 impl Described for Prepared {
     ghost describes = { λ it description. elim it [
       | of.BabyBearBytes protocol ↦ IsOfSuite 0 (λ left. ⟦<HashSuite<Sha256Hasher> as Calls>⟧.describes 1 left
-          protocol.separator protocol.steps.items) description
+          (held_of protocol.separator) protocol.steps.items) description
       | of.BabyBearElements protocol ↦ IsOfSuite 1 (λ left. ⟦<Serializing32Suite as Calls>⟧.describes 1 left
-          protocol.separator protocol.steps.items) description
+          (held_of protocol.separator) protocol.steps.items) description
       | of.BabyBearBytesKeccak protocol ↦ IsOfSuite 2 (λ left. ⟦<HashSuite<Keccak256Hasher> as Calls>⟧.describes 1 left
-          protocol.separator protocol.steps.items) description
+          (held_of protocol.separator) protocol.steps.items) description
       | of.BabyBearElementsKeccak protocol ↦ IsOfSuite 3 (λ left. ⟦<Serializing32Suite<Keccak256Hasher> as Calls>⟧.describes 1 left
-          protocol.separator protocol.steps.items) description
+          (held_of protocol.separator) protocol.steps.items) description
       | of.GoldilocksElements protocol ↦ IsOfSuite 4 (λ left. ⟦<Serializing64Suite as Calls>⟧.describes 1 left
-          protocol.separator protocol.steps.items) description
+          (held_of protocol.separator) protocol.steps.items) description
       | of.GoldilocksElementsKeccak protocol ↦ IsOfSuite 5 (λ left. ⟦<Serializing64Suite<Keccak256Hasher> as Calls>⟧.describes 1 left
-          protocol.separator protocol.steps.items) description
+          (held_of protocol.separator) protocol.steps.items) description
       | of.BabyBearPoseidon2 protocol ↦ IsOfSuite 6 (λ left. ⟦<BabyBearPoseidon2Suite as Calls>⟧.describes 1 left
-          protocol.separator protocol.steps.items) description
+          (held_of protocol.separator) protocol.steps.items) description
       | of.GoldilocksPoseidon2 protocol ↦ IsOfSuite 7 (λ left. ⟦<GoldilocksPoseidon2Suite as Calls>⟧.describes 1 left
-          protocol.separator protocol.steps.items) description
+          (held_of protocol.separator) protocol.steps.items) description
     ] };
 }
 

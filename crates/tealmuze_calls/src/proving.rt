@@ -1,6 +1,6 @@
 //! Values that are proved by one call.
 ghost use Rattle.std.specs.Prelude.{◌≡◌, ◌<◌, ◌∷◌, ◌++◌, ℕ, length, IfOk, IfErr, List};
-ghost use Rattle.p3_challenger.specs.{Provings.AreHanded, Runs.AreAdmitted, Verdicts.script_of, Values.Value};
+ghost use Rattle.p3_challenger.specs.{Provings.AreHanded, Runs.AreAdmitted, Verdicts.script_of, Values.Value, SeparatorSeed.held_of};
 ghost use Rattle.p3_challenger.specs.Scripts.{play_of, values_sent, challenges_of};
 ghost use Rattle.tealmuze_calls.specs.Forms.{number_bytes, counted_bytes, listed_bytes, scalar_bytes};
 ghost use Rattle.tealmuze_calls.specs.Forms.{value_bytes, challenge_bytes};
@@ -77,12 +77,12 @@ fn prove_protocol<S: Called>(
     requires { let rules = ⟦<S as Meaning>⟧.rules S.Field.DIMENSION in
         AreAdmitted (play_of rules) protocol.now.steps.items }
     ensures ok { (description : List ℕ) → ⟦<S as Calls>⟧.describes S.Field.DIMENSION description
-        protocol.now.separator protocol.now.steps.items → IfOk result (ByAnswer
+        (held_of protocol.now.separator) protocol.now.steps.items → IfOk result (ByAnswer
         (⟦<S as Calls>⟧.tells_of_values S.Field.DIMENSION values.now description) (λ wanted.
         ⟦<S as Calls>⟧.wants_room S.Field.DIMENSION S.Extension.DIMENSION (length values.now) description wanted
         × room < wanted)) }
     ensures err { (description : List ℕ) → ⟦<S as Calls>⟧.describes S.Field.DIMENSION description
-        protocol.now.separator protocol.now.steps.items → IfErr result
+        (held_of protocol.now.separator) protocol.now.steps.items → IfErr result
         (IsDueTo (⟦<S as Calls>⟧.asks_of_values S.Field.DIMENSION description values.now → ⊥)) }
 {
     let wanted = wanted_room(protocol.steps.as_slice(), values.len());

@@ -1,5 +1,5 @@
 //! How many bytes an answer may have.
-ghost use Rattle.std.specs.Prelude.{◌≡◌, ◌-◌, ◌^◌, min};
+ghost use Rattle.std.specs.Prelude.{◌≡◌, ◌-◌, ◌^◌, ◌∷◌, [], min};
 ghost use Rattle.tealmuze_calls.specs.Rooms.{drawn_room, room_for};
 
 use p3_challenger::Sponge;
@@ -25,6 +25,15 @@ pub fn wanted_room<S: Suite>(steps: &[Step<S>], len: usize) -> usize
         wanted = wanted.saturating_add(EACH).saturating_add(drawn(step));
     }
     wanted
+}
+
+/// Returns how many bytes the answer of one step may have, with so many bytes of a proof left.
+pub fn wanted_room_of_step<S: Suite>(step: &Step<S>, len: usize) -> usize
+    ensures { result ≡ room_for S.Extension.DIMENSION (step.now ∷ []) len }
+{
+    HEAD.saturating_add(len.saturating_mul(FOR_A_BYTE))
+        .saturating_add(EACH)
+        .saturating_add(drawn(step))
 }
 
 // How many bytes there are for what a step draws.

@@ -38,6 +38,12 @@ pub enum Unanswered {
     /// The suite has no such step, or draws not so many bits.
     #[error("steps: the suite does not play one of them, or not with so many bits")]
     NotPlayed,
+    /// The step that is asked for has another label than the protocol's next one, or none is left.
+    #[error("label: the protocol has another step next, or none")]
+    NotNext,
+    /// The transcript has ended.
+    #[error("the transcript has ended")]
+    Ended,
     /// Another number of witnesses is carried than the steps want, or one is no element.
     #[error("carried: expected one element for each step that is carried one")]
     Carried,

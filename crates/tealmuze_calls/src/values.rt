@@ -36,8 +36,10 @@ pub fn parse_values<S: Called>(alloc: Global, bytes: &[u8]) -> Result<Vec<Sent<S
     Ok(sent)
 }
 
-// The next value.
-fn parse_value<S: Called>(alloc: Global, from: &mut Cursor<'_>) -> Result<Sent<S>, Unanswered>
+/// The next value that these bytes encode.
+///
+/// The errors are those of [`parse_values`].
+pub fn parse_value<S: Called>(alloc: Global, from: &mut Cursor<'_>) -> Result<Sent<S>, Unanswered>
     ensures ok { IfOk result (λ sent. from.old.left.now
         ≡ value_bytes S.Field.residues.number S.Extension.coefficients (value_sent sent)
         ++ from.new.left.now) }

@@ -1,6 +1,6 @@
 //! A proof that is verified by one call.
 ghost use Rattle.std.specs.Prelude.{◌≡◌, ◌<◌, ◌∷◌, ◌++◌, ℕ, List, length, map, IfOk, IfErr};
-ghost use Rattle.p3_challenger.specs.{Runs.{AreAdmitted, carried_count}, Verdicts.script_of};
+ghost use Rattle.p3_challenger.specs.{Runs.{AreAdmitted, carried_count}, SeparatorSeed.held_of, Verdicts.script_of};
 ghost use Rattle.p3_challenger.specs.Scripts.{play_of, values_received, challenges_of};
 ghost use Rattle.tealmuze_calls.specs.Forms.{listed_bytes, value_bytes, challenge_bytes};
 ghost use Rattle.tealmuze_calls.specs.{Errors.IsDueTo, Told.{TellsOfProof, CanBeCarried}, Written.ByAnswer};
@@ -91,12 +91,12 @@ fn verify_protocol<S: Called>(
     requires { let rules = ⟦<S as Meaning>⟧.rules S.Field.DIMENSION in
         AreAdmitted (play_of rules) protocol.now.steps.items }
     ensures ok { (description : List ℕ) → ⟦<S as Calls>⟧.describes S.Field.DIMENSION description
-        protocol.now.separator protocol.now.steps.items → IfOk result (ByAnswer
+        (held_of protocol.now.separator) protocol.now.steps.items → IfOk result (ByAnswer
         (⟦<S as Calls>⟧.tells_of_proof S.Field.DIMENSION proof.now carried.now description) (λ wanted.
         ⟦<S as Calls>⟧.wants_room S.Field.DIMENSION S.Extension.DIMENSION (length proof.now) description wanted
         × room < wanted)) }
     ensures err { (description : List ℕ) → ⟦<S as Calls>⟧.describes S.Field.DIMENSION description
-        protocol.now.separator protocol.now.steps.items → IfErr result
+        (held_of protocol.now.separator) protocol.now.steps.items → IfErr result
         (IsDueTo (⟦<S as Calls>⟧.asks_of_proof S.Field.DIMENSION description carried.now → ⊥)) }
 {
     let wanted = wanted_room(protocol.steps.as_slice(), proof.len());

@@ -1,8 +1,8 @@
 -- The demo protocol as a script, and what its two sides answer.
 use Rattle.std.specs.{declared.alloc.Global.Global, Borrow.Bor, Prelude.{◌≡◌, ℕ, List, [], ◌∷◌, Vec, codes}}
-use Rattle.p3_challenger.specs.{TranscriptError.{TheVariants.OutOfMemory, TranscriptError}, SeparatorSeed.separator_of}
+use Rattle.p3_challenger.specs.{TranscriptError.{TheVariants.OutOfMemory, TranscriptError}, Separators.{Separator, contents_of}}
 use Rattle.p3_challenger.specs.{Scripts.play_of, ScriptRefusals.sides_of, Verdicts.{Accepts, RefusesProof, HasNoProof, with_steps}}
-use Rattle.p3_challenger.specs.{PatternSteps.steps_of, DomainSeparator.DomainSeparator, HashCalls.with_pending}
+use Rattle.p3_challenger.specs.{PatternSteps.steps_of, HashCalls.with_pending}
 use Rattle.p3_challenger.specs.Provings.{IsProved, RefusesToProve, IsProverRun}
 use Rattle.p3_field.specs.BabyBearResidues.{BabyBear}
 use Rattle.transcript_program.specs.{Demo.demo_steps, Report.report, declared.arguments.ToProve.ToProve}
@@ -34,11 +34,11 @@ demo_challenger =
     record { inner = record { sponge = with_pending []; hasher = record {} }; draw_limit = 1000 }
 
 -- version 2 of the protocol `demo`, with its pattern, and one chunk
-pub record IsDemoSeparator {U D : Type 0} (separator : DomainSeparator U D) : Type 0 where
-  pub version_is : (separator_of separator).version ≡ 2
-  pub name_is : (separator_of separator).name ≡ codes "demo"
-  pub chunks_are : (separator_of separator).chunks ≡ codes "example" ∷ []
-  pub pattern_is : steps_of (separator_of separator).pattern ≡ demo_steps
+pub record IsDemoSeparator (separator : Separator) : Type 0 where
+  pub version_is : separator.version ≡ 2
+  pub name_is : separator.name ≡ codes "demo"
+  pub chunks_are : separator.chunks ≡ codes "example" ∷ []
+  pub pattern_is : steps_of separator.pattern ≡ demo_steps
 
 -- its steps, with this public list
 abbrev pub demo_script : DemoLabels → Vec BabyBear Global → List DemoStep
@@ -61,7 +61,7 @@ pub record IsDemo (inputs : List BabyBear) (run : DemoRun) : Type 0 where
   pub list_is : list.items ≡ inputs
   pub steps_are : run.steps ≡ demo_script labels list
   pub challenger_is : run.challenger ≡ demo_challenger
-  pub separator_is : IsDemoSeparator run.separator
+  pub separator_is : IsDemoSeparator (contents_of run.separator)
 
 -- what a prover sends: the salt, the values, and the note
 abbrev pub sent_by : ToProve → List DemoValue

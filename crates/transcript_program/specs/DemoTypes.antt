@@ -23,7 +23,7 @@ DemoRules = Rules DemoChallenger ℕ BabyBear BabyBear (Coeffs BabyBear 4) (Hash
 
 -- a run, and what stands at a step and is drawn there
 abbrev pub DemoRun : Type 0
-DemoRun = Run DemoStep BabyBear (Coeffs BabyBear 4) DemoChallenger (FieldUnit BabyBear) Sha256Hasher
+DemoRun = Run DemoStep BabyBear (Coeffs BabyBear 4) DemoChallenger
 
 abbrev pub DemoValue : Type 0
 DemoValue = Value BabyBear (Coeffs BabyBear 4)

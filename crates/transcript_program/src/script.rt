@@ -1,7 +1,7 @@
 //! The demo protocol as a script, on both sides.
 ghost use Rattle.std.specs.Prelude.{◌≡◌, ◌⊎◌, IfOk, IfErr, string_bytes, List, ℕ};
 ghost use Rattle.p3_challenger.specs.{Runs.{AreAdmitted, carried_count}, Scripts.{challenge_of, play_of, values_sent}};
-ghost use Rattle.p3_challenger.specs.Scripts.{values_received, challenges_of, value_received};
+ghost use Rattle.p3_challenger.specs.{Scripts.{values_received, challenges_of, value_received}, SeparatorSeed.separator_of};
 ghost use Rattle.p3_field.specs.BabyBearResidues.{BabyBear};
 ghost use Rattle.transcript_program.specs.DemoScript.{DemoLabels, demo_script, demo_challenger, IsDemoSeparator};
 ghost use Rattle.transcript_program.specs.DemoScript.{IsDemoProof, RefusesDemoProof, IsDemoReport, RefusesDemoReport};
@@ -67,7 +67,7 @@ fn challenger(
 fn separator(
     alloc: Global,
 ) -> Result<DomainSeparator<FieldUnit<BabyBear>, Sha256Hasher>, TranscriptError>
-    ensures ok { IfOk result (λ separator. IsDemoSeparator separator) }
+    ensures ok { IfOk result (λ separator. IsDemoSeparator (separator_of separator)) }
     ensures err { IfErr result (λ e. e ≡ TranscriptError.OutOfMemory) }
 {
     let mut separator = DomainSeparator::new(alloc, 2, b"demo", demo::pattern(alloc)?)?;

@@ -10,7 +10,7 @@ use Rattle.p3_challenger.specs.Step as script
 module _ {F EF O Ac M : Type 0} (Su U C K D G It S T : Type 0) (rules : Rules S T It F EF O Ac) (state : C → S)
     (run : S → List (Call T) → segments.Run T M S) (pending : S → List T) where
   abbrev pub Script : Type 0
-  Script = Run (script.Step Su F EF U O C K Ac D G It S T) F EF S U D
+  Script = Run (script.Step Su F EF U O C K Ac D G It S T) F EF S
 
   abbrev pub Accepted : Type 0
   Accepted = Verified Su F EF U O C K Ac D G It S T

@@ -33,9 +33,9 @@ module _ {S T M : Type 0} (run : S → List (Call T) → segments.Run T M S) whe
         ∙ ap₂ (λ a b. a ++ b) (ap observed_values here.are ∙ observed-amid here.before _ here.later)
         (observed-steps steps values _ rest later)
 
-    module _ {I Ac U D : Type 0} (rules : Rules S T I F EF O Ac) where
+    module _ {I Ac : Type 0} (rules : Rules S T I F EF O Ac) where
       -- they observe the run's symbols
-      pub observed-run : (x : Run X F EF S U D) (calls : List (Call T)) → AreOfRun run play rules x calls →
+      pub observed-run : (x : Run X F EF S) (calls : List (Call T)) → AreOfRun run play rules x calls →
           observed_values calls ≡ fronts.symbols rules play x
       observed-run x calls h =
           ap observed_values h.are
@@ -59,8 +59,8 @@ module _ {S T M : Type 0} (run : S → List (Call T) → segments.Run T M S) whe
           ∙ ap (λ t. leaves t rest) here.lead
           ∙ sym (ap (leaves s) split ∙ by.more s first rest)
 
-      module _ {I Ac U D : Type 0} (rules : Rules S T I F EF O Ac) where
-        pub after-run : (x : Run X F EF S U D) (calls : List (Call T)) → AreOfRun run play rules x calls →
+      module _ {I Ac : Type 0} (rules : Rules S T I F EF O Ac) where
+        pub after-run : (x : Run X F EF S) (calls : List (Call T)) → AreOfRun run play rules x calls →
             last rules play x ≡ after_calls run x.challenger calls
         after-run x calls h =
             after-steps x.steps x.values (seeded rules play x) h.of_steps h.follow
@@ -109,9 +109,9 @@ module _ {S T M : Type 0} (run : S → List (Call T) → segments.Run T M S) whe
           let later = steps-have_calls each steps values (((play x).effect v).after s) p.3 h.1 in
           (here.0 ++ later.0, (here.0, later.0, refl, here.1, later.1))
 
-    module _ {X I F EF O Ac U D : Type 0} (rules : Rules S T I F EF O Ac) (play : X → Play S T F EF O)
+    module _ {X I F EF O Ac : Type 0} (rules : Rules S T I F EF O Ac) (play : X → Play S T F EF O)
         (each : EachExactly play rules.IsOwn) where
-      pub run-has_calls : (x : Run X F EF S U D) → IsFinished rules play x →
+      pub run-has_calls : (x : Run X F EF S) → IsFinished rules play x →
           AreHeld rules.IsOwn (fronts.absorbed rules play x) →
           seeded rules play x
           ≡ fed x.challenger (flat_map rules.alphabet.item.symbols (rules.alphabet.items (seed rules play x))) →

@@ -30,7 +30,7 @@ module _ {S T M : Type 0} (run : S → List (Call T) → segments.Run T M S) whe
 
     -- calls are those of a run: the symbols of the seed are observed, and then come the calls of
     -- the steps
-    pub record AreOfRun {I Ac U D : Type 0} (rules : Rules S T I F EF O Ac) (x : Run X F EF S U D)
+    pub record AreOfRun {I Ac : Type 0} (rules : Rules S T I F EF O Ac) (x : Run X F EF S)
         (calls : List (Call T)) : Type 0 where
       pub of_seed : List (Call T)
       pub of_steps : List (Call T)

@@ -9,22 +9,22 @@ use Rattle.p3_challenger.specs.Segments as segments
 use Rattle.p3_challenger.specs.Queries as queries
 
 module _ {S T M : Type 0} (run : S → List (Call T) → segments.Run T M S) (pending : S → List T)
-    (fed : S → List T → S) (next : S → S) (by : IsCallByCall run fed next) {X I F EF O Ac U D : Type 0}
+    (fed : S → List T → S) (next : S → S) (by : IsCallByCall run fed next) {X I F EF O Ac : Type 0}
     (rules : Rules S T I F EF O Ac) (play : X → Play S T F EF O) (start : S) where
-  abbrev Queries : Run X F EF S U D → List M → Type 0
+  abbrev Queries : Run X F EF S → List M → Type 0
   Queries x ms = MakesQueries run rules play x ms
 
-  queries-from_start : (x : Run X F EF S U D) (ms : List M) (h : Queries x ms) → x.challenger ≡ start →
+  queries-from_start : (x : Run X F EF S) (ms : List M) (h : Queries x ms) → x.challenger ≡ start →
       ms ≡ (run start h.calls).queries
   queries-from_start x ms h begins = h.queries_are ∙ ap (λ s. (run s h.calls).queries) begins
 
-  pending-from_start : (x : Run X F EF S U D) (ms : List M) (h : Queries x ms) → x.challenger ≡ start →
+  pending-from_start : (x : Run X F EF S) (ms : List M) (h : Queries x ms) → x.challenger ≡ start →
       pending (last rules play x) ≡ pending (after_calls run start h.calls)
   pending-from_start x ms h begins =
       ap pending (after-run run fed next by play rules x h.calls h.are_calls)
       ∙ ap (λ s. pending (after_calls run s h.calls)) begins
 
-  module _ (x y : Run X F EF S U D) (ms ns : List M) (begin : (x.challenger ≡ start) × (y.challenger ≡ start))
+  module _ (x y : Run X F EF S) (ms ns : List M) (begin : (x.challenger ≡ start) × (y.challenger ≡ start))
       (same : pending (last rules play x) ≡ pending (last rules play y)) (h : Queries x ms) (k : Queries y ns) where
     same-pending : LeaveSamePending (run start) pending h.calls k.calls
     same-pending = sym (pending-from_start x ms h begin.0) ∙ same ∙ pending-from_start y ns k begin.1
@@ -64,14 +64,14 @@ module _ {S T M : Type 0} (run : S → List (Call T) → segments.Run T M S) (pe
 
   -- ---- with the law that symbols bind
 
-  module _ (bind : SymbolsBind U D rules play) where
-    bound : (x y : Run X F EF S U D) → EndAlike run rules play pending start x y →
+  module _ (bind : SymbolsBind rules play) where
+    bound : (x y : Run X F EF S) → EndAlike run rules play pending start x y →
         symbols rules play x ≡ symbols rules play y → AreBound rules play x y
     bound x y alike same =
         bind x y record { finished = alike.finished; held = alike.held; as_far = alike.as_far; same = same }
 
     pub transcripts-read_back : queries.ReadsBack (run start) pending →
-        TranscriptsReadBack run rules play pending U D start
+        TranscriptsReadBack run rules play pending start
     transcripts-read_back reads x y ms alike h k =
         bound x y alike (symbols-told x y ms ms alike.begin alike.pending_same h k reads refl)
 
@@ -80,7 +80,7 @@ module _ {S T M : Type 0} (run : S → List (Call T) → segments.Run T M S) (pe
         ((calls others : List (Call T)) → LastAlike (run start calls).queries (run start others).queries →
         LeaveSamePending (run start) pending calls others → CallsEndAlike calls others) →
         queries.ReadsBackOrCollides (run start) pending CallsEndAlike Collide →
-        TranscriptsReadBackOrCollide run rules play pending U D LastAlike Collide start
+        TranscriptsReadBackOrCollide run rules play pending LastAlike Collide start
     transcripts-read_back_or_collide LastAlike Collide CallsEndAlike alike_are reads x y ms ns alike h k as_many last =
         elim (symbols-told_or_collide x y ms ns alike.begin alike.pending_same h k LastAlike Collide CallsEndAlike
         alike_are reads as_many last) [

@@ -29,6 +29,6 @@ pub fn scripts_are_calls<S: Suite>()
         EachScriptMakesQueries S S.Unit S.Challenger S.Codec S.Digest S.Group S.Unit.Item S.Challenger.State
         S.Challenger.Symbol rules run }
 {
-    separators_have_seeds::<S::Unit, S::Digest>();
+    separators_have_seeds::<S::Digest>();
     counts_are_told();
 }

@@ -5,8 +5,7 @@ use Rattle.p3_challenger.specs.{Encoding.Encoding, Kind.{Kind, TheVariants.{Chal
 use Rattle.p3_challenger.specs.{Length.TheVariants.{Fixed, Scalar}, Observation.Observation, Rejecting.taken}
 use Rattle.p3_challenger.specs.{Sampling.Sampling, Steps.{Step, algebra_of, algebra_step}, Driving.Driving}
 use Rattle.p3_challenger.specs.{TranscriptError.{TranscriptError, TheVariants.OutOfMemory}, Reading.AreBytes}
-use Rattle.p3_challenger.specs.{Transcripts.{IsNext, Transcript, bytes_step, step_on}, Sha256Hasher.Sha256Hasher}
-use Rattle.p3_challenger.specs.DomainSeparator.{DomainSeparator}
+use Rattle.p3_challenger.specs.{Transcripts.{IsNext, Transcript, bytes_step, step_on}, Separators.HeldSeparator}
 use Rattle.p3_field.specs.{BabyBearResidues.{BabyBear, residues}, Residues.{sum_of, product_of, power_of}}
 use Rattle.uses.specs.declared.protocol.Claim.{Claim}
 
@@ -110,11 +109,11 @@ pub record LineRules (S Symbol : Type 0) : Type 1 where
   pub divisors : Sampling S BabyBear
   pub encoding : Encoding BabyBear
   pub digest : List ℕ
-  pub seeded : DomainSeparator ℕ Sha256Hasher → S
+  pub seeded : HeldSeparator → S
 
 module _ {S Symbol : Type 0} (line : LineRules S Symbol) where
   -- a claim is that of a run under a separator, of which the bytes are the proof
-  abbrev pub IsRunUnder : DomainSeparator ℕ Sha256Hasher → List ℕ → Claim → Type 0
+  abbrev pub IsRunUnder : HeldSeparator → List ℕ → Claim → Type 0
   IsRunUnder separator bytes claim =
       IsRun line.observation line.places line.divisors line.encoding (line.seeded separator) claim bytes
 

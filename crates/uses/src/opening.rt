@@ -6,9 +6,9 @@
 //! contract of [`verify`] says that they do, and that the proof is exactly these bytes. It also says that every later
 //! draw depends on the leaf and the salt. The leaf is borrowed from the proof itself.
 ghost use Rattle.std.specs.Prelude.{◌≡◌, ◌<◌, ◌↔◌, ◌++◌, ℕ, List, [], ◌∷◌, IsTrue, IfOk, IfSome, OnOk};
-ghost use Rattle.p3_challenger.specs.{DomainSeparator.DomainSeparator, Drivers.verifying_of, HashCalls.with_pending};
+ghost use Rattle.p3_challenger.specs.{Drivers.verifying_of, HashCalls.with_pending, Separators.HeldSeparator};
 ghost use Rattle.p3_challenger.specs.{HashState.observed, Observation.observed_all, Sha256Hasher.Sha256Hasher};
-ghost use Rattle.p3_challenger.specs.SeparatorSeed.{seed_of_separator};
+ghost use Rattle.p3_challenger.specs.SeparatorSeed.{held_of, seed_of};
 ghost use Rattle.uses.specs.MerkleOpening.{IsClimb, IsDrawnPlace, IsOpened, ReadsOpened, above, leaf_node_of};
 ghost use Rattle.uses.specs.MerkleOpening.{parent_of};
 
@@ -52,7 +52,7 @@ type Node = [u8; 32];
 /// The view of contracts on the protocol, at its types.
 pub trait Opening: Sponge {
     // The state of a challenger after the seed of a separator.
-    ghost seeded: { DomainSeparator ℕ Sha256Hasher → Self.State };
+    ghost seeded: { HeldSeparator → Self.State };
 
     // The bytes have a leaf at a place that is in the tree, and others are left; a challenger goes from one state to
     // another.
@@ -60,8 +60,8 @@ pub trait Opening: Sponge {
 }
 
 impl Opening for Challenger {
-    ghost seeded = { λ separator. record {
-      sponge = with_pending (seed_of_separator ⟦<Sha256Hasher as DigestHasher>⟧.digest_of separator);
+    ghost seeded = { λ held. record {
+      sponge = with_pending (seed_of ⟦<Sha256Hasher as DigestHasher>⟧.digest_of held);
       hasher = record {};
     } };
 
@@ -159,7 +159,7 @@ pub fn verify<'a>(
     proof: &'a [u8],
 ) -> Result<Option<Opened<'a>>, TranscriptError>
     ensures { IfOk result (λ found. IfSome found (λ opened. ⟦<Challenger as Opening>⟧.is_opened proof.now
-        (⟦<Challenger as Opening>⟧.seeded separator.now) opened.place opened.bytes.now []
+        (⟦<Challenger as Opening>⟧.seeded (held_of separator.now)) opened.place opened.bytes.now []
         (⟦<Challenger as Sponge>⟧.state opened.challenger))) }
 {
     let mut verifier = Verifier::new(alloc, challenger(alloc), separator, proof)?;

@@ -6,7 +6,7 @@
 //! [`verify`] says that they do, and which bytes the proof is.
 ghost use Rattle.std.specs.Prelude.{◌≡◌, ◌+◌, ◌++◌, ℕ, [], length, IfOk, OnOk};
 ghost use Rattle.p3_challenger.specs.{HashCalls.with_pending, HashState.HashState, Sha256Hasher.Sha256Hasher};
-ghost use Rattle.p3_challenger.specs.{Drivers.{proving_of, verifying_of}, SeparatorSeed.{pattern_of, seed_of_separator}};
+ghost use Rattle.p3_challenger.specs.{Drivers.{proving_of, verifying_of}, SeparatorSeed.{held_of, pattern_of, seed_of}};
 ghost use Rattle.uses.specs.Protocol.{AcceptsRuns, AnswersRun, DrawsDivisor, DrawsDivisorAhead, DrawsPlace, IsDivisor};
 ghost use Rattle.uses.specs.Protocol.{IsProofFrom, IsRunUnder, LineRules, ReadsClaim, ReadsRunAhead, SendsLine};
 ghost use Rattle.uses.specs.Protocol.{may_divide, steps_of_line};
@@ -67,8 +67,8 @@ impl Line for Claim {
       divisors = ⟦<Coefficient as Codec<Challenger, BabyBear>>⟧.sampling;
       encoding = ⟦<Scalars as Codec<Challenger, BabyBear>>⟧.encoding;
       digest = ⟦<Sha256Hasher as DigestHasher>⟧.digest_of ⟦<BabyBear as AlgebraIdentity<BabyBear>>⟧.identity;
-      seeded = λ separator. record {
-        sponge = with_pending (seed_of_separator ⟦<Sha256Hasher as DigestHasher>⟧.digest_of separator);
+      seeded = λ held. record {
+        sponge = with_pending (seed_of ⟦<Sha256Hasher as DigestHasher>⟧.digest_of held);
         hasher = record {};
       };
     } };
@@ -82,7 +82,7 @@ pub fn prove(
     offset: BabyBear,
 ) -> Result<Vec<u8>, TranscriptError>
     ensures { let line = ⟦<Claim as Line>⟧.rules in
-        IfOk result (λ proof. IsProofFrom line (line.seeded separator.now) slope offset proof.items) }
+        IfOk result (λ proof. IsProofFrom line (line.seeded (held_of separator.now)) slope offset proof.items) }
 {
     let mut prover = Prover::new(alloc, challenger(alloc), separator)?;
     let sent = send(&mut prover, alloc, slope, offset);
@@ -122,9 +122,9 @@ pub fn verify(
     proof: &[u8],
 ) -> Result<Option<Claim>, TranscriptError>
     ensures length { OnOk result (length proof.now ≡ 12) }
-    ensures run { IfOk result (AnswersRun (IsRunUnder ⟦<Claim as Line>⟧.rules separator.now proof.now)) }
+    ensures run { IfOk result (AnswersRun (IsRunUnder ⟦<Claim as Line>⟧.rules (held_of separator.now) proof.now)) }
     ensures accepted { (pattern_of separator.now).steps ≡ steps_of_line ⟦<Claim as Line>⟧.rules.digest →
-        AcceptsRuns (IsRunUnder ⟦<Claim as Line>⟧.rules separator.now proof.now) result }
+        AcceptsRuns (IsRunUnder ⟦<Claim as Line>⟧.rules (held_of separator.now) proof.now) result }
 {
     let mut verifier = Verifier::new(alloc, challenger(alloc), separator, proof)?;
     let received = receive(&mut verifier);

@@ -5,6 +5,7 @@
 //! contracts of the drivers' steps and three laws suffice, and a body calls each law for its clause.
 ghost use Rattle.std.specs.Prelude.{◌≡◌, ◌≤◌, ◌++◌, IfOk, OnErr};
 ghost use Rattle.p3_challenger.specs.{Bound.bound_value, Drivers.{proving_of, verifying_of}, Dependence.DrawsAfter};
+ghost use Rattle.p3_challenger.specs.SeparatorSeed.{held_of};
 ghost use Rattle.uses.specs.SentAndDrawn.{DrawnAfter, LeavesRound, ObservesAndDraws};
 
 use crate::Seeded;
@@ -106,7 +107,7 @@ pub fn first_challenge<
 ) -> Result<TranscriptBound<F>, TranscriptError>
     requires alphabet { U.is_alphabet }
     requires secure { 128 ≤ Cdc.SECURITY_BITS }
-    ensures { IfOk result (λ x. DrawnAfter C.fed Cdc.sampling (⟦<C as Seeded<U, D>>⟧.seed_symbols separator.now
+    ensures { IfOk result (λ x. DrawnAfter C.fed Cdc.sampling (⟦<C as Seeded<U, D>>⟧.seed_symbols (held_of separator.now)
         ++ Cdc.observation.symbols value.now) (bound_value x) (C.state challenger)) }
 {
     bytes_feed_their_symbols::<U, C>();

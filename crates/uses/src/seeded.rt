@@ -1,7 +1,6 @@
 //! A challenger that has observed the seed of a separator, as contracts see it. Each transcript begins there.
 ghost use Rattle.std.specs.Prelude.{List, flat_map, length};
-ghost use Rattle.p3_challenger.specs.{DomainSeparator.DomainSeparator, Observation.observed_all};
-ghost use Rattle.p3_challenger.specs.SeparatorSeed.{seed_of_separator};
+ghost use Rattle.p3_challenger.specs.{Observation.observed_all, Separators.HeldSeparator, SeparatorSeed.seed_of};
 
 use p3_challenger::fs::Unit;
 use p3_challenger::{CanObserve, Sponge};
@@ -11,21 +10,21 @@ use p3_symmetric::DigestHasher;
 /// that observes the alphabet implements this trait, so no function needs the bound.
 pub trait Seeded<U, D>: Sponge {
     // The state of the challenger after the seed.
-    ghost seeded: { Self → DomainSeparator U D → Self.State };
+    ghost seeded: { Self → HeldSeparator → Self.State };
 
     // The symbols of the seed.
-    ghost seed_symbols: { DomainSeparator U D → List Self.Symbol };
+    ghost seed_symbols: { HeldSeparator → List Self.Symbol };
 
     // The seed is no longer than the alphabet lets it be.
-    ghost fits: { DomainSeparator U D → Type 0 };
+    ghost fits: { HeldSeparator → Type 0 };
 }
 
 impl<U: Unit, C: CanObserve<U::Item>, D: DigestHasher> Seeded<U, D> for C {
-    ghost seeded = { λ challenger separator. observed_all C.observation.observed (C.state challenger)
-        (U.items (seed_of_separator D.digest_of separator)) };
+    ghost seeded = { λ challenger held. observed_all C.observation.observed (C.state challenger)
+        (U.items (seed_of D.digest_of held)) };
 
-    ghost seed_symbols = { λ separator. flat_map C.observation.symbols
-        (U.items (seed_of_separator D.digest_of separator)) };
+    ghost seed_symbols = { λ held. flat_map C.observation.symbols
+        (U.items (seed_of D.digest_of held)) };
 
-    ghost fits = { λ separator. U.is_too_long (length (seed_of_separator D.digest_of separator)) → ⊥ };
+    ghost fits = { λ held. U.is_too_long (length (seed_of D.digest_of held)) → ⊥ };
 }

@@ -5,7 +5,7 @@
 //! each has the last value at its point.
 ghost use Rattle.std.specs.Prelude.{◌≡◌, ◌≤◌, ◌^◌, ◌++◌, ℕ, length, IfErr, IfOk, OnOk};
 ghost use Rattle.p3_challenger.specs.{Completeness.IsOwnRefusal, Drivers.{proving_of, verifying_of}};
-ghost use Rattle.p3_challenger.specs.{PatternSteps.steps_of, SeparatorSeed.pattern_of};
+ghost use Rattle.p3_challenger.specs.{PatternSteps.steps_of, SeparatorSeed.{held_of, pattern_of}};
 ghost use Rattle.p3_challenger.specs.TranscriptError.TheVariants.{OutOfMemory};
 ghost use Rattle.uses.specs.TwoSums.{AcceptsProofOfTwo, AcceptsTwo, IsSumcheckFault, PlaysNext, ProvesTwo};
 ghost use Rattle.uses.specs.TwoSums.{ReadsSentSum, ReadsSentTwo, ReadsSum, ReadsTwo, RecordsViable, SendsSum};
@@ -103,7 +103,7 @@ pub fn prove_two<
     requires alphabet { U.is_alphabet }
     requires secure { 128 ≤ Cdc.SECURITY_BITS }
     ensures sent { IfOk result (λ proof. ProvesTwo ⟦<F as Sums<F, C, D, Cdc>>⟧.sumcheck first.items second.items
-        (⟦<C as Seeded<U, D>>⟧.seeded challenger separator.now) (pattern_of separator.now) proof.items) }
+        (⟦<C as Seeded<U, D>>⟧.seeded challenger (held_of separator.now)) (pattern_of separator.now) proof.items) }
     ensures only { (n : ℕ) → length first.items ≡ 2 ^ n → length second.items ≡ 2 ^ n → (pattern_of separator.now).steps
         ≡ steps_of_two ⟦<F as Declared<F, D>>⟧.algebra n → IfErr result IsOwnRefusal }
 {
@@ -187,12 +187,12 @@ pub fn verify_two<
     requires alphabet { U.is_alphabet }
     requires secure { 128 ≤ Cdc.SECURITY_BITS }
     ensures accepts { IfOk result (λ read. AcceptsTwo ⟦<F as Sums<F, C, D, Cdc>>⟧.sumcheck rounds read.0 read.1
-        (⟦<C as Seeded<U, D>>⟧.seeded challenger separator.now) (pattern_of separator.now) proof.now) }
+        (⟦<C as Seeded<U, D>>⟧.seeded challenger (held_of separator.now)) (pattern_of separator.now) proof.now) }
     ensures only { (pattern_of separator.now).steps ≡ steps_of_two ⟦<F as Declared<F, D>>⟧.algebra rounds →
         IfErr result (IsSumcheckFault rounds) }
-    ensures complete { ⟦<C as Seeded<U, D>>⟧.fits separator.now →
+    ensures complete { ⟦<C as Seeded<U, D>>⟧.fits (held_of separator.now) →
         AcceptsProofOfTwo ⟦<F as Sums<F, C, D, Cdc>>⟧.sumcheck rounds
-        (⟦<C as Seeded<U, D>>⟧.seeded challenger separator.now) (pattern_of separator.now) proof.now result }
+        (⟦<C as Seeded<U, D>>⟧.seeded challenger (held_of separator.now)) (pattern_of separator.now) proof.now result }
 {
     let mut verifier = VerifierState::new(alloc, challenger, separator, proof)?;
     let received = receive_two::<F, U, C, D, Cdc>(alloc, rounds, &mut verifier);

@@ -5,8 +5,7 @@ use Rattle.std.specs.List.{AllByRecursion}
 use Rattle.p3_challenger_core.specs.Reading.{AreBytes}
 use Rattle.p3_fs_core.specs.{StepFits.IsProgramStep}
 use Rattle.p3_patterns.specs.PatternSteps.{PatternSteps, steps_of}
-use Rattle.p3_domain_separator.specs.{Seed.identifier, SeparatorSeed.pattern_of}
-use Rattle.p3_domain_separator.specs.declared.domain_separator.DomainSeparator.{DomainSeparator}
+use Rattle.p3_domain_separator.specs.{Seed.identifier, Separators.HeldSeparator}
 use Rattle.p3_driver_core.specs.Transcripts.{bytes_step}
 use Rattle.p3_runs.specs.{Fronts.{Run, IsFinished, symbols, last}, Plays.{Play, HasLength, when_some}, Rules.Rules}
 use Rattle.p3_runs.specs.{Plays.holds_some, Absorbed.Absorbed, Values.{Value, Challenge, bytes_in}}
@@ -29,10 +28,10 @@ abbrev WorldRules : Type 1
 WorldRules = Rules ℕ ℕ ℕ ℕ ℕ ℕ (Unit {0})
 
 abbrev Separator : Type 0
-Separator = DomainSeparator world.Nil world.Nil
+Separator = HeldSeparator
 
 abbrev Script : Type 0
-Script = Run world.Step ℕ ℕ ℕ world.Nil world.Nil
+Script = Run world.Step ℕ ℕ ℕ
 
 abbrev play : WorldRules → world.Step → Play ℕ ℕ ℕ ℕ ℕ
 play rules x = play_of rules x
@@ -156,13 +155,13 @@ hint_answer separator byte =
 
 -- the run of any byte is finished, and its proof is accepted
 hint_finished : (separator : Separator) →
-    steps_of (pattern_of separator) ≡ bytes_step kind.Hint (codes "a") (lengths.Fixed 1) ∷ [] → (byte : ℕ) →
+    steps_of separator.pattern ≡ bytes_step kind.Hint (codes "a") (lengths.Fixed 1) ∷ [] → (byte : ℕ) →
     IsFinished world.rules (play world.rules) (run_of (hint_script separator) (value.Bytes (byte ∷ []) ∷ []))
 hint_finished separator are byte =
     record { in_pattern = ap (take 1) (sym are); seed_fits = λ long. long; finishes = (refl, tt, refl, tt) }
 
 hint_accepted : (separator : Separator) →
-    steps_of (pattern_of separator) ≡ bytes_step kind.Hint (codes "a") (lengths.Fixed 1) ∷ [] → (byte : ℕ) →
+    steps_of separator.pattern ≡ bytes_step kind.Hint (codes "a") (lengths.Fixed 1) ∷ [] → (byte : ℕ) →
     IsAnswer world.rules (hint_script separator) (byte ∷ []) [] (hint_answer separator byte)
 hint_accepted separator are byte =
     record {
@@ -192,7 +191,7 @@ hint_made separator byte = record {
 }
 
 hint_proved : (separator : Separator) →
-    steps_of (pattern_of separator) ≡ bytes_step kind.Hint (codes "a") (lengths.Fixed 1) ∷ [] → (byte : ℕ) →
+    steps_of separator.pattern ≡ bytes_step kind.Hint (codes "a") (lengths.Fixed 1) ∷ [] → (byte : ℕ) →
     IsMade (hint_script separator) (value.Bytes (byte ∷ []) ∷ []) (hint_made separator byte)
 hint_proved separator are byte =
     record {

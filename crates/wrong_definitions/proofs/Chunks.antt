@@ -4,9 +4,8 @@ use Rattle.std.{specs.List.All, proofs.lemmas.List.Elements.All-from_recursion}
 use Rattle.p3_fs_core.specs.declared.step.Kind.TheVariants.{Protocol}
 use Rattle.p3_patterns.specs.{PatternGrammar.nothing, PatternSteps.{PatternSteps, steps_of}, Rendering.hashed_text}
 use Rattle.p3_domain_separator.specs.Seed.{SeedParts, AreSeedParts, FitsCount, identifier, label_of, seed_of_parts}
-use Rattle.p3_domain_separator.specs.SeparatorSeed.{seed_parts, separator_of}
-use Rattle.p3_domain_separator.specs.declared.domain_separator.DomainSeparator.{DomainSeparator}
-use Rattle.p3_domain_separator.specs.{Separators.Separator, SeedLaws.{label_injective, seed_prefix_code}}
+use Rattle.p3_domain_separator.specs.{SeparatorSeed.seed_parts, SeedLaws.{label_injective, seed_prefix_code}}
+use Rattle.p3_domain_separator.specs.Separators.{HeldSeparator, Separator, contents_of}
 
 -- a separator's seed, where the label of chunks is this
 module _ (label : List (List ℕ) → List ℕ) (digest_of : List ℕ → List ℕ) where
@@ -22,12 +21,12 @@ module _ (label : List (List ℕ) → List ℕ) (digest_of : List ℕ → List �
   Fit s = AreSeedParts (parts s) × All FitsCount s.chunks
 
 -- with the label as it stands they are those of a separator's seed
-as_the_seed : {U D : Type 0} (digest_of : List ℕ → List ℕ) (s : DomainSeparator U D) →
-    seed_parts digest_of s ≡ parts label_of digest_of (separator_of s)
+as_the_seed : (digest_of : List ℕ → List ℕ) (s : HeldSeparator) →
+    seed_parts digest_of s ≡ parts label_of digest_of (contents_of s)
 as_the_seed digest_of s =
     λ i. record {
       protocol_id = s.is_identifier.encoded i;
-      digest = digest_of (hashed_text (steps_of s.pattern.value));
+      digest = digest_of (hashed_text (steps_of s.pattern));
       label = s.is_label.encoded i;
     }
 

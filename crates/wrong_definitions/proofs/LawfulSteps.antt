@@ -14,7 +14,7 @@ use Rattle.p3_fs_core.specs.declared.step.Length.TheVariants as lengths
 use Rattle.p3_runs.specs.Values as value
 use Rattle.p3_script.specs.declared.steps.Step.TheVariants as step
 use Rattle.wrong_definitions.proofs.{Bytes.are_bytes, Patterns.pattern_of_one}
-use Rattle.wrong_definitions.proofs.World.{Nil, Step, coding, rules, draw, label, separator}
+use Rattle.wrong_definitions.proofs.World.{Nil, Step, coding, rules, draw, label, no_numbers}
 
 abbrev WorldRules : Type 1
 WorldRules = Rules ℕ ℕ ℕ ℕ ℕ ℕ (Unit {0})
@@ -116,7 +116,7 @@ one_pattern = pattern_of kind.Message (lengths.Fixed 1) (lit< tt)
 
 -- a step of no values
 abbrev none_observed : Step
-none_observed = step.ObserveExtensions (label (codes "a")) (separator one_pattern).instance_label
+none_observed = step.ObserveExtensions (label (codes "a")) no_numbers
 
 also_length-refused : ¬ ((x : Step) → (play_of rules x).admitted →
     RefuseForOneReason (also_refuses_none (sides_of rules x)))

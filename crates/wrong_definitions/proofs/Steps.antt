@@ -5,8 +5,7 @@ use denote.Bor.{Bor}
 use Rattle.p3_fs_core.specs.{StepFits.{FitsLength, IsProgramStep}, Steps.algebra_step}
 use Rattle.p3_fs_core.specs.declared.step.{Kind.Kind, Length.Length}
 use Rattle.p3_patterns.specs.PatternSteps.{PatternSteps, steps_of}
-use Rattle.p3_domain_separator.specs.SeparatorSeed.{pattern_of, seed_of_separator}
-use Rattle.p3_domain_separator.specs.declared.domain_separator.DomainSeparator.{DomainSeparator}
+use Rattle.p3_domain_separator.specs.{Separators.HeldSeparator, SeparatorSeed.seed_of}
 use Rattle.p3_driver_core.specs.Effects.{Effect, observing_bytes, observing_list}
 use Rattle.p3_driver_core.specs.Transcripts.{bytes_step}
 use Rattle.p3_runs.specs.{Fronts.{Run, IsFinished}, Plays.{Play, effect_some, giving, no_challenge}, Rules.Rules}
@@ -69,13 +68,13 @@ module _ {S Symbol I F EF O Ac : Type 0} (Su U C K D G It St Sy : Type 0) (r : R
 
   -- In any suite, under any separator of their pattern: two scalars and none feed the same as one and one, and not the
   -- same is absorbed.
-  without_count-refused : (one other : Bor (List ℕ)) (sep : DomainSeparator U D) →
-      steps_of (pattern_of sep) ≡ runs.interactions (λ (x : Script). play_of r x) (two_lists one other) →
-      ¬ (r.alphabet.is_too_long (length (seed_of_separator r.digest_of sep))) → S → F →
-      ¬ (SymbolsBind U D r (λ (x : Script). play_without_count r x))
+  without_count-refused : (one other : Bor (List ℕ)) (sep : HeldSeparator) →
+      steps_of sep.pattern ≡ runs.interactions (λ (x : Script). play_of r x) (two_lists one other) →
+      ¬ (r.alphabet.is_too_long (length (seed_of r.digest_of sep))) → S → F →
+      ¬ (SymbolsBind r (λ (x : Script). play_without_count r x))
   without_count-refused one other sep are short s x told =
       let play : Script → Play S Symbol F EF O = λ (y : Script). play_without_count r y in
-      let run : List (Value F EF) → Run Script F EF S U D =
+      let run : List (Value F EF) → Run Script F EF S =
       λ values. record { challenger = s; separator = sep; steps = two_lists one other; values = values } in
       let both = run (Scalars (x ∷ x ∷ []) ∷ Scalars [] ∷ []) in
       let each = run (Scalars (x ∷ []) ∷ Scalars (x ∷ []) ∷ []) in
@@ -118,7 +117,7 @@ lists_pattern =
     (is_program_step kind.Message (codes "a") (lengths.Bounded 2) refl (lit< tt) (lit< tt))
     (is_program_step kind.Message (codes "b") (lengths.Bounded 2) refl (lit< tt) (lit< tt))
 
-world-without_count-refused : ¬ (SymbolsBind Nil Nil rules (λ (x : Step). play_without_count rules x))
+world-without_count-refused : ¬ (SymbolsBind rules (λ (x : Step). play_without_count rules x))
 world-without_count-refused =
     without_count-refused Nil Nil Nil Nil Nil Nil ℕ ℕ ℕ rules (label (codes "a")) (label (codes "b"))
     (separator lists_pattern) refl (λ long. long) 0 0
@@ -143,7 +142,7 @@ hint_pattern =
     (algebra_step kind.Challenge (codes "b") coding.algebra lengths.Scalar) refl refl is_hint
     (is_program_step kind.Challenge (codes "b") lengths.Scalar refl (lit< tt) tt)
 
-abbrev hinted : ℕ → Run Step ℕ ℕ ℕ Nil Nil
+abbrev hinted : ℕ → Run Step ℕ ℕ ℕ
 hinted byte = record {
   challenger = 0;
   separator = separator hint_pattern;
@@ -156,7 +155,7 @@ hinted-finished byte =
     record { in_pattern = refl; seed_fits = λ long. long; finishes = (refl, λ long. long, refl, (tt, tt, refl, tt)) }
 
 -- the bytes 0 and 1: each is what is drawn after it
-with_hints-refused : ¬ (HintsDoNotInfluence Nil Nil rules (λ (x : Step). play_with_hints rules x))
+with_hints-refused : ¬ (HintsDoNotInfluence rules (λ (x : Step). play_with_hints rules x))
 with_hints-refused told =
     let same = told (hinted 0) (hinted 1).values (hinted-finished 0) (hinted-finished 1) (tt, (refl, tt)) in
     let draws : ◌≡◌ {A = List (Challenge ℕ ℕ)} (OfScalars (0 ∷ []) ∷ []) (OfScalars (1 ∷ []) ∷ []) = same.draws in

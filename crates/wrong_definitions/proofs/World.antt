@@ -6,8 +6,7 @@ use Rattle.p3_challenger_core.specs.Observation.{Observation, unrefused_observe}
 use Rattle.p3_challenger_core.specs.Sampling.{Sampling, unrefused_draw}
 use Rattle.p3_fs_core.specs.{Alphabet.alphabet_of, Encoding.Encoding, Steps.algebra_of}
 use Rattle.p3_patterns.specs.PatternSteps.{PatternSteps}
-use Rattle.p3_domain_separator.specs.declared.domain_separator.DomainSeparator.{DomainSeparator}
-use Rattle.p3_domain_separator.specs.Seed.{identifier}
+use Rattle.p3_domain_separator.specs.{Seed.identifier, Separators.HeldSeparator}
 use Rattle.p3_runs.specs.{Absorbed.alone, Rules.{Rules, Coding}}
 use Rattle.p3_script.specs.declared.steps.Step as script
 use Rattle.wrong_definitions.proofs.Bytes.{are_bytes}
@@ -70,9 +69,9 @@ none k below = absurd (omega (arith, below))
 abbrev pub label : List ℕ → Bor (List ℕ)
 label bytes = record { ref_ptr = (0, 0); now = bytes }
 
--- the separator of a protocol of this pattern, with no label yet
-abbrev no_bytes : Vec ℕ
-no_bytes = record {
+-- a list with nothing in it
+abbrev pub no_numbers : Vec ℕ
+no_numbers = record {
   ptr = null_ptr;
   len = 0;
   cap = 0;
@@ -82,13 +81,12 @@ no_bytes = record {
   small = lit< tt;
 }
 
-abbrev pub separator : PatternSteps → DomainSeparator Nil Nil
+-- the separator of a protocol of this pattern, with no label yet
+abbrev pub separator : PatternSteps → HeldSeparator
 separator pattern = record {
   protocol_id = identifier 1 (codes "p");
-  instance_label = no_bytes;
-  pattern = record { ptr = null_ptr; value = pattern };
-  alphabet = record {};
-  hasher = record {};
+  label = [];
+  pattern = pattern;
   is_identifier = record {
     version = 1;
     name = codes "p";

@@ -16,7 +16,9 @@ pub use p3_script::{
     Step, StepGroup, Suite, proofs_have_one_run,
 };
 pub use p3_script_answers::{Answered, ProveByError, prove_by};
-pub use p3_script_checks::{admitted, carried_len, fits, pattern, sent_matches, step_matches};
+pub use p3_script_checks::{
+    admitted, carried_len, fits, pattern, sent_matches, step_admitted, step_matches,
+};
 pub use p3_script_prover::{Played, Proved, prove, prover_step};
 pub use p3_script_round_trip::{prove_and_verify, verify_proved};
 pub use p3_script_verifier::{Answer, Verified, verifier_step, verify};

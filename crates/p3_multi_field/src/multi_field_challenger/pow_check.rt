@@ -1,10 +1,9 @@
 //! The search for a witness, whose checks all start from one prepared state: a candidate changes one digit of one cell.
-ghost use Rattle.std.specs.Prelude.{◌≡◌, ◌<◌, ◌≤◌, ◌^◌, ◌↔◌, MatchOption, IsOk, IsTrue, slice_set, length};
-ghost use Rattle.std.specs.Prelude.{[], ◌∷◌, ◌++◌};
-ghost use Rattle.p3_field_bridge.specs.Bridges.{packed};
+ghost use Rattle.std.specs.Prelude.{◌≡◌, ◌<◌, ◌≤◌, ◌↔◌, MatchOption, IsOk, IsTrue, slice_set, length};
 ghost use Rattle.p3_challenger_core.specs.Sampling.{most_bits_of};
 ghost use Rattle.p3_grinding.specs.Checks.{FindsOrRefuses};
 ghost use Rattle.p3_multi_field.specs.PreparedChecks.{PreparedFor, Accepts, IsLeastAccepted, NoneAccepted, check};
+ghost use Rattle.p3_multi_field.specs.PreparedChecks.{with_candidate};
 
 use super::packing::pack_over;
 use crate::{HasFieldPair, MultiField32Challenger};
@@ -95,6 +94,10 @@ impl<
 
     // The least candidate that passes a check of `bits` bits, if one does. The cell of the candidate 0 packs what is
     // before it. From each candidate to the next the cell is more by the weight of a candidate's digit.
+    //
+    // The even candidates have one copy of the cells, the odd ones another. So a candidate's cells are written before
+    // those of the candidate before it are permuted. A permutation that is called reads its cells from memory, and
+    // would else wait for what was written just before.
     fn least(self, bits: usize) -> Option<F>
         requires { bits < 64 }
         ensures { let pair = ⟦<PF as HasFieldPair<F>>⟧.field_pair in
@@ -102,26 +105,37 @@ impl<
             (IsLeastAccepted pair P.permutation RATE self bits) }
     {
         let weight = PF::from_u64(1 << PF::RADIX_BITS).exp_u64(self.within as u64);
-        let mut value = PF::pack(&self.before[..self.within]);
-        'candidates: for number in 0..F::ORDER_U64 {
-            if self.accepts(value, bits) {
-                return Some(F::from_canonical(number));
+        let first = PF::pack(&self.before[..self.within]);
+        let mut even = self.cells_with(first);
+        let mut value = first + weight;
+        let mut odd = self.cells_with(value);
+        'pairs: for pair in 0..F::ORDER_U64 / 2 + 1 {
+            let next_even = value + weight;
+            if self.accepts(&mut even, next_even, bits) {
+                return F::from_canonical_checked(2 * pair);
             }
-            value = value + weight;
+            value = next_even + weight;
+            if self.accepts(&mut odd, value, bits) {
+                return F::from_canonical_checked(2 * pair + 1);
+            }
         }
         None
     }
 
-    // Whether the candidate passes whose cell has this value: whether so many low bits of what it gives are 0.
-    fn accepts(&self, value: PF, bits: usize) -> bool
+    // Whether the candidate passes that these cells have: whether so many low bits of what it gives are 0. The cells
+    // are then those with `next` in the candidate's, for the candidate two further.
+    // It is written out at both calls: else it makes all cells, also where a compiler could leave most of them out.
+    #[inline(always)]
+    fn accepts(&self, cells: &mut [PF; WIDTH], next: PF, bits: usize) -> bool
         requires { bits < 64 }
-        ensures { let pair = ⟦<PF as HasFieldPair<F>>⟧.field_pair in
-            (x : F) → packed F.residues PF.residues PF.RADIX_BITS (self.now.before ++ x ∷ []) ≡ value →
+        ensures passes { let pair = ⟦<PF as HasFieldPair<F>>⟧.field_pair in
+            (x : F) → cells.old ≡ with_candidate pair P.permutation RATE self.now x →
             IsTrue result ↔ Accepts pair P.permutation RATE self.now bits x }
+        ensures next { cells.new ≡ slice_set self.now.cells self.now.place next }
     {
-        let mut cells = self.cells_with(value);
-        self.permutation.permute_mut(&mut cells);
+        self.permutation.permute_mut(cells);
         let given: F = PF::digit(cells[RATE - 1], PF::SQUEEZE_COUNT - 1);
+        *cells = self.cells_with(next);
         given.as_canonical_u64() % (1 << bits) == 0
     }
 

@@ -1,5 +1,5 @@
 use Rattle.std.proofs.Common.{ap, arith, rules, refl, ◌≡◌, ◌<◌, ◌≤◌, ◌++◌, [], length}
-use Rattle.p3_runs.specs.{CarriedLaws.proved-count, Stepping.one_of, Verdicts.script_of}
+use Rattle.p3_runs.specs.{CarriedLaws.proved-count, Stepping.one_of, Verdicts.script_under}
 use Rattle.p3_script.specs.Scripts.{challenges_of, values_sent}
 use Rattle.p3_script_answers.proofs.AnsweringLaws.{first-empty, first-on, first-refused, first-end, next-admitted}
 use Rattle.p3_script_answers.proofs.AnsweringLaws.{seed-refused, end-refused}
@@ -81,7 +81,7 @@ returns-in-Ok-finish-clause-proved g c =
     c.requires.admitted _ c.loop-position.position _ _ _ _ c.loop-position.invariant.played past _ _
     c.in-Ok-finish.ensures.ok.0 c.in-Ok-finish.ensures.ok.1 c.in-Ok-finish.ensures.ok.2 in
     rw (c.assemble.ensures.narg, c.assemble.ensures.sent, c.assemble.ensures.witnesses, c.assemble.ensures.carried, c.assemble.ensures.challenges, c.assemble.ensures.challenger)
-    (p, proved-count _ _ (script_of _ _ _) _ _ _ _ _ _ p)
+    (p, proved-count _ _ (script_under _ _ _) _ _ _ _ _ _ p)
 
 pub returns-clause-stopped : goal.returns-clause-stopped
 returns-clause-stopped g c =

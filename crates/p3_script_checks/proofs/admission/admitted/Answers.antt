@@ -9,15 +9,15 @@ pub loop-step-preserved : goal.loop-step-preserved
 loop-step-preserved g c =
     record {
       back = λ rest. c.loop-step.invariant.back (all-back _ c.args.steps.now c.loop-step.step-index c.step-item.result
-          c.loop-step-test.true c.step-item.is (c.if-not-is_admitted.ensures.0 refl) rest);
+          c.loop-step-test.true c.step-item.is (c.if-not-step_admitted.ensures.0 refl) rest);
       on = λ all. (all-on _ c.args.steps.now c.loop-step.step-index c.step-item.result c.loop-step-test.true
           c.step-item.is (c.loop-step.invariant.on all)).1;
     }
 
-pub returns-then-not-is_admitted : goal.returns-then-not-is_admitted
-returns-then-not-is_admitted g c = (
+pub returns-then-not-step_admitted : goal.returns-then-not-step_admitted
+returns-then-not-step_admitted g c = (
   λ t. not_true t,
-  λ all. not_true (c.if-not-is_admitted.ensures.1 (all-on _ c.args.steps.now c.loop-step.step-index
+  λ all. not_true (c.if-not-step_admitted.ensures.1 (all-on _ c.args.steps.now c.loop-step.step-index
       c.step-item.result c.loop-step-test.true c.step-item.is (c.loop-step.invariant.on all)).0),
 )
 

@@ -1,5 +1,5 @@
 use Rattle.std.proofs.Common.{arith, inl, inr, refl, ◌<◌, ◌≤◌, length}
-use Rattle.p3_runs.specs.{CarriedLaws.proved-count, RefusalLaws.start-never, Verdicts.script_of}
+use Rattle.p3_runs.specs.{CarriedLaws.proved-count, RefusalLaws.start-never, Verdicts.script_under}
 use Rattle.p3_runs.specs.ProvingLaws.{proves-start, proves-next, proves-end, proves-not_ended}
 use Rattle.p3_script_prover.proofs.NextLaws.{part-on, next-admitted, next-on, next-refused, next-never, end-never}
 use Rattle.p3_script_prover.proofs.proving.prove.Goals as goal
@@ -57,5 +57,5 @@ returns-in-Ok-finish-clause-proved g c =
     let outcome = proves-end _ _ _ _ c.loop-i.i _ _ _ _ _ past c.loop-i.invariant _ _ c.in-Ok-finish.ensures.ok.0
     c.in-Ok-finish.ensures.ok.1 c.in-Ok-finish.ensures.ok.2 in (
       record { values = c.loop-i.invariant.values; outcome = outcome },
-      proved-count _ _ (script_of _ _ _) _ _ _ _ _ _ (record { values = c.loop-i.invariant.values; outcome = outcome }),
+      proved-count _ _ (script_under _ _ _) _ _ _ _ _ _ (record { values = c.loop-i.invariant.values; outcome = outcome }),
     )

@@ -1,6 +1,6 @@
 use Rattle.std.proofs.Common.{arith, ◌<◌, ◌≤◌, length, refl, inl, inr}
 use Rattle.p3_runs.specs.{FollowingLaws.{follows-start, follows-refused, follows-not_ended}, NoProofLaws.refused-so}
-use Rattle.p3_runs.specs.Verdicts.{script_of}
+use Rattle.p3_runs.specs.Verdicts.{script_under}
 use Rattle.p3_script_verifier.proofs.Following.{part-on, next-admitted, next-carried, follows-kept}
 use Rattle.p3_script_verifier.proofs.Following.{follows-accepts}
 use Rattle.p3_script_verifier.proofs.verifying.verify.Goals as goal
@@ -48,13 +48,13 @@ returns-in-Ok-finish-clause-accepted g c =
 
 pub returns-in-Err-clause-refused : goal.returns-in-Err-clause-refused
 returns-in-Err-clause-refused g c =
-    refused-so _ _ c.script_steps_are_lawful.ensures.canonical _ c.script_steps_are_lawful.ensures.taken (script_of _ _ _) _
+    refused-so _ _ c.script_steps_are_lawful.ensures.canonical _ c.script_steps_are_lawful.ensures.taken (script_under _ _ _) _
     _ 0 _ c.requires.admitted (inl (refl, c.in-Err.ensures.err))
 
 pub returns-in-Err-taken-clause-refused : goal.returns-in-Err-taken-clause-refused
 returns-in-Err-taken-clause-refused g c =
     let here : c.loop-position.position < length c.args.steps.now = omega arith in
-    refused-so _ _ c.script_steps_are_lawful.ensures.canonical _ c.script_steps_are_lawful.ensures.taken (script_of _ _ _)
+    refused-so _ _ c.script_steps_are_lawful.ensures.canonical _ c.script_steps_are_lawful.ensures.taken (script_under _ _ _)
     _ _ c.loop-position.position _ c.requires.admitted
     (inr (inl (follows-refused _ _ _ _ _ _ c.loop-position.position c.loop-position.used _ _ _ _ _ _ _ _
     (part-on c.args.steps.now c.loop-position.position c.index-steps-position.result here c.index-steps-position.is)
@@ -68,7 +68,7 @@ returns-in-Err-taken-clause-refused g c =
 pub returns-clause-refused : goal.returns-clause-refused
 returns-clause-refused g c =
     let past : length c.args.steps.now ≤ c.loop-position.position = omega arith in
-    refused-so _ _ c.script_steps_are_lawful.ensures.canonical _ c.script_steps_are_lawful.ensures.taken (script_of _ _ _)
+    refused-so _ _ c.script_steps_are_lawful.ensures.canonical _ c.script_steps_are_lawful.ensures.taken (script_under _ _ _)
     _ _ _ _ c.requires.admitted
     (inr (inr (follows-not_ended _ _ _ _ _ c.loop-position.position c.loop-position.used _ _ _ past
     c.loop-position.invariant _ c.in-Err-finish.ensures.err)))

@@ -1,5 +1,5 @@
 use Rattle.std.proofs.Common.{◌≡◌, ap, sym, ◌∙◌, arith}
-use Rattle.p3_challenger.specs.Scripts.{values_sent}
+use Rattle.p3_challenger.specs.{Scripts.values_sent, SeparatorSeed.held_of}
 use Rattle.tealmuze_calls.specs.Forms.{listed_bytes, value_bytes}
 use Rattle.tealmuze_calls.proofs.{Dues.due_passed, Readers.handed_alike, Sendable.same_values}
 use Rattle.tealmuze_calls.proofs.proving.prove_protocol.Goals as goal
@@ -8,7 +8,7 @@ use Rattle.tealmuze_calls.proofs.proving.prove_protocol.Goals as goal
 pub returns-then-wanted-room-clause-ok : goal.returns-then-wanted-room-clause-ok
 returns-then-wanted-room-clause-ok g c description described = (
   record {
-    separator = c.args.protocol.now.separator;
+    separator = held_of c.args.protocol.now.separator;
     steps = c.args.protocol.now.steps.items;
     describes = described;
     wanted_is = rw c.as_slice.ensures.value at c.wanted_room-wanted.ensures;
@@ -23,7 +23,7 @@ returns-clause-ok g c description described =
     in record {
       start = g.S.Challenger.Sponge.state c.fresh.result;
       fresh = c.fresh.ensures;
-      separator = c.args.protocol.now.separator;
+      separator = held_of c.args.protocol.now.separator;
       steps = c.args.protocol.now.steps.items;
       describes = described;
       tells = record {
@@ -57,7 +57,7 @@ returns-in_err-bytes-clause-err g c description described =
     g.met.S.Extension.BasedVectorSpace.same_coefficients c.args.values.now asked.such.values sent
     asked.such.sendable c.in_ok-sent.ensures.held asked.such.encoded c.in_ok-sent.ensures.ok in
     none (handed_alike residues.number coefficients g.S.Called.opaque_numbers g.S.Called.are_opaque _
-    description asked.separator c.args.protocol.now.separator asked.steps
+    description asked.separator (held_of c.args.protocol.now.separator) asked.steps
     c.args.protocol.now.steps.items asked.describes described dimension
     g.met.S.Extension.BasedVectorSpace.at_least_one long asked.such.values (values_sent c.as_slice-2.result.now)
     (same ∙ ap values_sent (sym c.as_slice-2.ensures.value)) asked.such.such))

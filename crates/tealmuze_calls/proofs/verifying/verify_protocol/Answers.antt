@@ -1,4 +1,5 @@
 use Rattle.std.proofs.Common.{ℕ, subst}
+use Rattle.p3_challenger.specs.SeparatorSeed.{held_of}
 use Rattle.tealmuze_calls.specs.Told.{CanBeCarried}
 use Rattle.tealmuze_calls.proofs.{Dues.due_passed, Readers.same_carried}
 use Rattle.tealmuze_calls.proofs.verifying.verify_protocol.Goals as goal
@@ -7,7 +8,7 @@ use Rattle.tealmuze_calls.proofs.verifying.verify_protocol.Goals as goal
 pub returns-then-wanted-room-clause-ok : goal.returns-then-wanted-room-clause-ok
 returns-then-wanted-room-clause-ok g c description described = (
   record {
-    separator = c.args.protocol.now.separator;
+    separator = held_of c.args.protocol.now.separator;
     steps = c.args.protocol.now.steps.items;
     describes = described;
     wanted_is = rw c.as_slice.ensures.value at c.wanted_room-wanted.ensures;
@@ -20,7 +21,7 @@ pub returns-clause-ok : goal.returns-clause-ok
 returns-clause-ok g c description described = record {
   start = g.S.Challenger.Sponge.state c.fresh.result;
   fresh = c.fresh.ensures;
-  separator = c.args.protocol.now.separator;
+  separator = held_of c.args.protocol.now.separator;
   steps = c.args.protocol.now.steps.items;
   describes = described;
   tells = c.in_ok-bytes.ensures.ok;
@@ -33,7 +34,7 @@ returns-in_err-bytes-clause-err g c description described =
     due_passed c.from_residual.result _ _ _ (λ none asked. none (subst CanBe
     (same_carried g.S.Field.PrimeCharacteristicRing.residues.number g.S.Extension.BasedVectorSpace.coefficients
     g.S.Called.opaque_numbers g.S.Called.are_opaque _ description asked.separator
-    c.args.protocol.now.separator asked.steps c.args.protocol.now.steps.items asked.describes
+    (held_of c.args.protocol.now.separator) asked.steps c.args.protocol.now.steps.items asked.describes
     described g.S.Extension.BasedVectorSpace.DIMENSION
     g.met.S.Extension.BasedVectorSpace.at_least_one g.met.S.Extension.BasedVectorSpace.length_coefficients) asked.such))
     c.from_residual.ensures.1 c.in_err-bytes.ensures.err

@@ -1,7 +1,7 @@
 use Rattle.std.proofs.Common.{◌≡◌, ◌++◌, [], inr, map, refl, ap, sym, subst, ◌∙◌}
 use Rattle.std.specs.{List.All, Str.IsUtf8}
 use Rattle.std.proofs.lemmas.{List.length-map, List.Elements.All-map}
-use Rattle.p3_challenger.specs.{PatternSteps.steps_of, SeparatorSeed.separator_of, Separators.Separator}
+use Rattle.p3_challenger.specs.{PatternSteps.steps_of, Separators.{Separator, contents_of}}
 use Rattle.tealmuze_calls.specs.Descriptions.{parts_of, HasForm}
 use Rattle.tealmuze_calls.specs.Forms.{text_bytes, counted_bytes, listed_bytes}
 use Rattle.tealmuze_calls.specs.Readings.{Reading, parts_bytes, reading_bytes, FitsWord, IsListHeld, IsHeld, AreTexts}
@@ -65,7 +65,7 @@ returns-in_err-text-clause-err g c =
     let a = c.byte.new.self.left.now in
     let one = c.in_ok-version.ensures.read in
     due _ c.from_residual-in_err-text.result _ c.from_residual-in_err-text.ensures.1 (λ p is. c.in_err-text.ensures.err
-    (separator_of p.0).name _ is.texts.name (after_version number coefficients opaque are_opaque _ bytes p.0 p.1 is version a one))
+    (contents_of p.0).name _ is.texts.name (after_version number coefficients opaque are_opaque _ bytes p.0 p.1 is version a one))
 
 pub returns-in_err-chunks-clause-err : goal.returns-in_err-chunks-clause-err
 returns-in_err-chunks-clause-err g c =
@@ -81,7 +81,7 @@ returns-in_err-chunks-clause-err g c =
     let b = c.text.new.self.left.now in
     let two : a ≡ text_bytes name ++ b = c.in_ok-text.ensures.read
     ∙ ap (λ name. text_bytes name ++ b) (sym c.as_bytes-name.ensures.value) in
-    due_passed c.from_residual-in_err-chunks.result _ _ _ (λ none p is. none (separator_of p.0).chunks _ is.held.chunks
+    due_passed c.from_residual-in_err-chunks.result _ _ _ (λ none p is. none (contents_of p.0).chunks _ is.held.chunks
     (after_name number coefficients opaque are_opaque _ bytes p.0 p.1 is version name a b one two).1) c.from_residual-in_err-chunks.ensures.1 c.in_err-chunks.ensures.err
 
 pub returns-in_err-steps-clause-err : goal.returns-in_err-steps-clause-err
@@ -157,7 +157,7 @@ returns-in_err-pattern-clause-err g c =
     let parts = (after_steps number coefficients opaque are_opaque _ bytes p.0 p.1 is d e read (after_chunks number coefficients opaque are_opaque _ bytes p.0 p.1 is version name a b d chunks one two three held).1
     c.in_ok-steps.ensures.ok).0 in
     let Form = HasForm number coefficients opaque are_opaque in
-    none (separator_of p.0).pattern (pattern_stands number coefficients opaque are_opaque _ bytes p.0 p.1 is
+    none (contents_of p.0).pattern (pattern_stands number coefficients opaque are_opaque _ bytes p.0 p.1 is
     g.S.Extension.BasedVectorSpace.DIMENSION g.met.S.Extension.BasedVectorSpace.at_least_one
     g.met.S.Extension.BasedVectorSpace.length_coefficients c.as_slice.result.now
     (subst (All Form) (sym c.as_slice.ensures.value) c.in_ok-steps.ensures.ok.formed)

@@ -1,0 +1,29 @@
+use Rattle.std.proofs.Common.{◌≡◌, ◌<◌, ◌∙◌, ◌+◌, length, map, refl, ap, arith}
+use Rattle.std.proofs.lemmas.List.{length-map}
+use Rattle.p3_field_core.specs.Residues.{power_of}
+use Rattle.p3_goldilocks.specs.GoldilocksResidues.{residues}
+use Rattle.p3_poseidon2.specs.Poseidon2.{cell}
+use Rattle.p3_poseidon2.proofs.Filling.{filled-none, filled-more, filled-all}
+use Rattle.p3_poseidon2.proofs.unreduced_layers.put_powers.Goals as goal
+
+pub loop-i-init : goal.loop-i-init
+loop-i-init g c = filled-none _ _ _
+
+pub loop-i-preserved : goal.loop-i-preserved
+loop-i-preserved g c =
+    let cells = map residues.of c.args.state.now in
+    let i = c.loop-i.i in
+    let so_far = c.loop-i.invariant in
+    let long : length cells ≡ g.row.WIDTH = length-map c.args.state.now residues.of ∙ c.told-state in
+    let inside : i < length cells = omega (arith, long, c.loop-i-test.true) in
+    filled-more (residues.of 0) (λ j. power_of residues (cell residues cells j) g.row.DEGREE) cells i (i + 1)
+    (map residues.of c.loop-i.state) (map residues.of c.put_number.new.state) (residues.of c.power-power.result) refl inside
+    c.put_number.ensures
+    (c.power-power.ensures
+    ∙ ap (λ x. power_of residues x g.row.DEGREE) (c.number_in-own.ensures ∙ so_far.after i (omega arith)))
+    so_far
+
+pub returns : goal.returns
+returns g c =
+    filled-all _ _ _ g.row.WIDTH _ c.loop-i.i (omega arith) (length-map c.args.state.now residues.of ∙ c.told-state)
+    c.loop-i.invariant

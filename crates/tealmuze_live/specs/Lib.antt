@@ -1,0 +1,5 @@
+pub mod Alike
+pub mod Lives
+pub mod Readings
+pub mod Sides
+pub mod Starts
