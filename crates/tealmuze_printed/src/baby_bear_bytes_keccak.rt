@@ -5,7 +5,7 @@ use p3_challenger::fs::script::{AcceptAll, Plain, Step, Suite};
 use p3_challenger::fs::{BytesToFieldCodec, DomainSeparator, Kind, TranscriptError, script};
 use p3_field::{BabyBear, Coeffs};
 use p3_keccak::Keccak256Hasher;
-use std::alloc::{AllocError, Global};
+use std::alloc::Global;
 
 /// The types that play the protocol.
 #[derive(Clone, Copy, Debug)]
@@ -51,8 +51,8 @@ pub fn challenger(alloc: Global) -> Challenger {
 }
 
 /// The steps, in order.
-pub fn steps(alloc: Global) -> Result<Vec<Step<Protocol>>, AllocError> {
-    Ok(vec![in alloc;
+pub fn steps() -> [Step<Protocol>; 12] {
+    [
         Step::Begin {
             label: "sent",
             kind: Kind::Protocol,
@@ -92,11 +92,14 @@ pub fn steps(alloc: Global) -> Result<Vec<Step<Protocol>>, AllocError> {
             label: "sent",
             kind: Kind::Protocol,
         },
-    ]?)
+    ]
 }
 
 /// The version and the name of the protocol, the pattern of its steps, and the instance.
-pub fn separator(alloc: Global, steps: &[Step<Protocol>]) -> Result<Separator, TranscriptError> {
-    let pattern = script::pattern::<Protocol>(alloc, steps)?;
-    Separator::new(alloc, 255, "sent".as_bytes(), pattern)
+pub fn separator<S: Suite>(
+    alloc: Global,
+    steps: &[Step<S>],
+) -> Result<DomainSeparator<S::Unit, S::Digest>, TranscriptError> {
+    let pattern = script::pattern::<S>(alloc, steps)?;
+    DomainSeparator::new(alloc, 255, "sent".as_bytes(), pattern)
 }

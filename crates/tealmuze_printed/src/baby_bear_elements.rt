@@ -7,7 +7,7 @@ use p3_challenger::fs::{
 use p3_challenger::{HashChallenger, SerializingChallenger32};
 use p3_field::{BabyBear, Coeffs};
 use p3_symmetric::{Hash, Sha256Hasher};
-use std::alloc::{AllocError, Global};
+use std::alloc::Global;
 
 /// The types that play the protocol.
 #[derive(Clone, Copy, Debug)]
@@ -56,8 +56,8 @@ pub fn challenger(alloc: Global) -> Challenger {
 }
 
 /// The steps, in order.
-pub fn steps(alloc: Global) -> Result<Vec<Step<Protocol>>, AllocError> {
-    Ok(vec![in alloc;
+pub fn steps() -> [Step<Protocol>; 9] {
+    [
         Step::Begin {
             label: "work",
             kind: Kind::Protocol,
@@ -99,13 +99,16 @@ pub fn steps(alloc: Global) -> Result<Vec<Step<Protocol>>, AllocError> {
             label: "work",
             kind: Kind::Protocol,
         },
-    ]?)
+    ]
 }
 
 /// The version and the name of the protocol, the pattern of its steps, and the instance.
-pub fn separator(alloc: Global, steps: &[Step<Protocol>]) -> Result<Separator, TranscriptError> {
-    let pattern = script::pattern::<Protocol>(alloc, steps)?;
-    let mut separator = Separator::new(alloc, 2, "work".as_bytes(), pattern)?;
+pub fn separator<S: Suite>(
+    alloc: Global,
+    steps: &[Step<S>],
+) -> Result<DomainSeparator<S::Unit, S::Digest>, TranscriptError> {
+    let pattern = script::pattern::<S>(alloc, steps)?;
+    let mut separator = DomainSeparator::new(alloc, 2, "work".as_bytes(), pattern)?;
     separator.instance(&[101, 120, 97, 109, 112, 108, 101])?;
     Ok(separator)
 }

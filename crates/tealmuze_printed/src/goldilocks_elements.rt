@@ -5,7 +5,7 @@ use p3_challenger::fs::{DomainSeparator, FieldToFieldCodec, FieldUnit, Transcrip
 use p3_challenger::{HashChallenger, SerializingChallenger64};
 use p3_field::Goldilocks;
 use p3_symmetric::{Hash, Sha256Hasher};
-use std::alloc::{AllocError, Global};
+use std::alloc::Global;
 
 /// The types that play the protocol.
 #[derive(Clone, Copy, Debug)]
@@ -54,8 +54,8 @@ pub fn challenger(alloc: Global) -> Challenger {
 }
 
 /// The steps, in order.
-pub fn steps(alloc: Global) -> Result<Vec<Step<Protocol>>, AllocError> {
-    Ok(vec![in alloc;
+pub fn steps() -> [Step<Protocol>; 3] {
+    [
         Step::Opaque {
             label: "digest",
             value: Hash::from([1, 2, 3, 18446744073709551615]),
@@ -66,11 +66,14 @@ pub fn steps(alloc: Global) -> Result<Vec<Step<Protocol>>, AllocError> {
             width: 63,
             n: 1,
         },
-    ]?)
+    ]
 }
 
 /// The version and the name of the protocol, the pattern of its steps, and the instance.
-pub fn separator(alloc: Global, steps: &[Step<Protocol>]) -> Result<Separator, TranscriptError> {
-    let pattern = script::pattern::<Protocol>(alloc, steps)?;
-    Separator::new(alloc, 1, "words".as_bytes(), pattern)
+pub fn separator<S: Suite>(
+    alloc: Global,
+    steps: &[Step<S>],
+) -> Result<DomainSeparator<S::Unit, S::Digest>, TranscriptError> {
+    let pattern = script::pattern::<S>(alloc, steps)?;
+    DomainSeparator::new(alloc, 1, "words".as_bytes(), pattern)
 }

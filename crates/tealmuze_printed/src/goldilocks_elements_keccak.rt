@@ -6,7 +6,7 @@ use p3_challenger::{HashChallenger, SerializingChallenger64};
 use p3_field::{Goldilocks, PrimeCharacteristicRing};
 use p3_keccak::Keccak256Hasher;
 use p3_symmetric::Hash;
-use std::alloc::{AllocError, Global};
+use std::alloc::Global;
 
 /// The types that play the protocol.
 #[derive(Clone, Copy, Debug)]
@@ -55,8 +55,8 @@ pub fn challenger(alloc: Global) -> Challenger {
 }
 
 /// The steps, in order.
-pub fn steps(alloc: Global) -> Result<Vec<Step<Protocol>>, AllocError> {
-    Ok(vec![in alloc;
+pub fn steps() -> [Step<Protocol>; 3] {
+    [
         Step::Opaque {
             label: "digest",
             value: Hash::from([0, 0, 0, 4294967296]),
@@ -70,11 +70,14 @@ pub fn steps(alloc: Global) -> Result<Vec<Step<Protocol>>, AllocError> {
             width: 8,
             n: 2,
         },
-    ]?)
+    ]
 }
 
 /// The version and the name of the protocol, the pattern of its steps, and the instance.
-pub fn separator(alloc: Global, steps: &[Step<Protocol>]) -> Result<Separator, TranscriptError> {
-    let pattern = script::pattern::<Protocol>(alloc, steps)?;
-    Separator::new(alloc, 1, "words".as_bytes(), pattern)
+pub fn separator<S: Suite>(
+    alloc: Global,
+    steps: &[Step<S>],
+) -> Result<DomainSeparator<S::Unit, S::Digest>, TranscriptError> {
+    let pattern = script::pattern::<S>(alloc, steps)?;
+    DomainSeparator::new(alloc, 1, "words".as_bytes(), pattern)
 }

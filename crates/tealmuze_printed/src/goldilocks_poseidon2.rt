@@ -76,7 +76,10 @@ pub fn steps(alloc: Global) -> Result<Vec<Step<Protocol>>, AllocError> {
 }
 
 /// The version and the name of the protocol, the pattern of its steps, and the instance.
-pub fn separator(alloc: Global, steps: &[Step<Protocol>]) -> Result<Separator, TranscriptError> {
-    let pattern = script::pattern::<Protocol>(alloc, steps)?;
-    Separator::new(alloc, 1, "cells".as_bytes(), pattern)
+pub fn separator<S: Suite>(
+    alloc: Global,
+    steps: &[Step<S>],
+) -> Result<DomainSeparator<S::Unit, S::Digest>, TranscriptError> {
+    let pattern = script::pattern::<S>(alloc, steps)?;
+    DomainSeparator::new(alloc, 1, "cells".as_bytes(), pattern)
 }

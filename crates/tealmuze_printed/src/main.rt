@@ -14,21 +14,12 @@ mod goldilocks_elements_keccak;
 mod goldilocks_poseidon2;
 
 use anyhow::Result;
-use p3_challenger::fs::DomainSeparator;
 use p3_challenger::fs::script::{Drawn, Step, Suite};
+use p3_challenger::fs::{DomainSeparator, TranscriptError, Unit};
 use p3_field::{BasedVectorSpace, PrimeField64};
+use p3_symmetric::DigestHasher;
 use script_lines::playing::prove_steps;
 use std::alloc::Global;
-
-// Tells of the code of a module.
-macro_rules! tell_of {
-    ($rt:expr, $module:ident, $challenger:expr) => {{
-        let steps = $module::steps($rt.alloc())?;
-        let separator = $module::separator($rt.alloc(), &steps)?;
-        let told = tell::<$module::Protocol>($rt.alloc(), $challenger, &separator, &steps)?;
-        println!($rt; "{} {told}", stringify!($module))?;
-    }};
-}
 
 fn main(rt: HostRuntime) -> Result<()> {
     of_bytes(&rt)?;
@@ -36,67 +27,192 @@ fn main(rt: HostRuntime) -> Result<()> {
     of_permutations(&rt)
 }
 
+// The modules of printed code.
+#[derive(Clone, Copy)]
+enum Module {
+    BabyBearBytes,
+    BabyBearBytesKeccak,
+    GoldilocksBytes,
+    BabyBearElements,
+    BabyBearElementsKeccak,
+    GoldilocksElements,
+    GoldilocksElementsKeccak,
+    BabyBearPoseidon2,
+    GoldilocksPoseidon2,
+    BabyBearInGoldilocksPoseidon2,
+}
+
+impl Module {
+    fn name(self) -> &'static str {
+        match self {
+            Module::BabyBearBytes => "baby_bear_bytes",
+            Module::BabyBearBytesKeccak => "baby_bear_bytes_keccak",
+            Module::GoldilocksBytes => "goldilocks_bytes",
+            Module::BabyBearElements => "baby_bear_elements",
+            Module::BabyBearElementsKeccak => "baby_bear_elements_keccak",
+            Module::GoldilocksElements => "goldilocks_elements",
+            Module::GoldilocksElementsKeccak => "goldilocks_elements_keccak",
+            Module::BabyBearPoseidon2 => "baby_bear_poseidon2",
+            Module::GoldilocksPoseidon2 => "goldilocks_poseidon2",
+            Module::BabyBearInGoldilocksPoseidon2 => "baby_bear_in_goldilocks_poseidon2",
+        }
+    }
+
+    // What the module's code binds a transcript of these steps to.
+    fn separator<S: Suite>(
+        self,
+        alloc: Global,
+        steps: &[Step<S>],
+    ) -> Result<DomainSeparator<S::Unit, S::Digest>, TranscriptError> {
+        match self {
+            Module::BabyBearBytes => baby_bear_bytes::separator(alloc, steps),
+            Module::BabyBearBytesKeccak => baby_bear_bytes_keccak::separator(alloc, steps),
+            Module::GoldilocksBytes => goldilocks_bytes::separator(alloc, steps),
+            Module::BabyBearElements => baby_bear_elements::separator(alloc, steps),
+            Module::BabyBearElementsKeccak => baby_bear_elements_keccak::separator(alloc, steps),
+            Module::GoldilocksElements => goldilocks_elements::separator(alloc, steps),
+            Module::GoldilocksElementsKeccak => goldilocks_elements_keccak::separator(alloc, steps),
+            Module::BabyBearPoseidon2 => baby_bear_poseidon2::separator(alloc, steps),
+            Module::GoldilocksPoseidon2 => goldilocks_poseidon2::separator(alloc, steps),
+            Module::BabyBearInGoldilocksPoseidon2 => baby_bear_in_goldilocks_poseidon2::separator(
+                alloc, steps,
+            ),
+        }
+    }
+}
+
 fn of_bytes(rt: &HostRuntime) -> Result<()> {
-    tell_of!(rt, baby_bear_bytes, baby_bear_bytes::challenger(rt.alloc()));
-    tell_of!(
+    of_baby_bear_bytes(rt)?;
+    of_baby_bear_bytes_keccak(rt)?;
+    of_goldilocks_bytes(rt)
+}
+
+fn of_baby_bear_bytes(rt: &HostRuntime) -> Result<()> {
+    let challenger = baby_bear_bytes::challenger(rt.alloc());
+    let steps = baby_bear_bytes::steps(rt.alloc())?;
+    tell::<baby_bear_bytes::Protocol>(rt, Module::BabyBearBytes, challenger, &steps)
+}
+
+fn of_baby_bear_bytes_keccak(rt: &HostRuntime) -> Result<()> {
+    let challenger = baby_bear_bytes_keccak::challenger(rt.alloc());
+    tell::<baby_bear_bytes_keccak::Protocol>(
         rt,
-        baby_bear_bytes_keccak,
-        baby_bear_bytes_keccak::challenger(rt.alloc())
-    );
-    tell_of!(
-        rt,
-        goldilocks_bytes,
-        goldilocks_bytes::challenger(rt.alloc())
-    );
-    Ok(())
+        Module::BabyBearBytesKeccak,
+        challenger,
+        &baby_bear_bytes_keccak::steps(),
+    )
+}
+
+fn of_goldilocks_bytes(rt: &HostRuntime) -> Result<()> {
+    let challenger = goldilocks_bytes::challenger(rt.alloc());
+    let steps = goldilocks_bytes::steps(rt.alloc())?;
+    tell::<goldilocks_bytes::Protocol>(rt, Module::GoldilocksBytes, challenger, &steps)
 }
 
 fn of_elements(rt: &HostRuntime) -> Result<()> {
-    tell_of!(
+    of_baby_bear_elements(rt)?;
+    of_baby_bear_elements_keccak(rt)?;
+    of_goldilocks_elements(rt)?;
+    of_goldilocks_elements_keccak(rt)
+}
+
+fn of_baby_bear_elements(rt: &HostRuntime) -> Result<()> {
+    let challenger = baby_bear_elements::challenger(rt.alloc());
+    tell::<baby_bear_elements::Protocol>(
         rt,
-        baby_bear_elements,
-        baby_bear_elements::challenger(rt.alloc())
-    );
-    tell_of!(
+        Module::BabyBearElements,
+        challenger,
+        &baby_bear_elements::steps(),
+    )
+}
+
+fn of_baby_bear_elements_keccak(rt: &HostRuntime) -> Result<()> {
+    let challenger = baby_bear_elements_keccak::challenger(rt.alloc());
+    let steps = baby_bear_elements_keccak::steps(rt.alloc())?;
+    tell::<baby_bear_elements_keccak::Protocol>(
         rt,
-        baby_bear_elements_keccak,
-        baby_bear_elements_keccak::challenger(rt.alloc())
-    );
-    tell_of!(
+        Module::BabyBearElementsKeccak,
+        challenger,
+        &steps,
+    )
+}
+
+fn of_goldilocks_elements(rt: &HostRuntime) -> Result<()> {
+    let challenger = goldilocks_elements::challenger(rt.alloc());
+    tell::<goldilocks_elements::Protocol>(
         rt,
-        goldilocks_elements,
-        goldilocks_elements::challenger(rt.alloc())
-    );
-    tell_of!(
+        Module::GoldilocksElements,
+        challenger,
+        &goldilocks_elements::steps(),
+    )
+}
+
+fn of_goldilocks_elements_keccak(rt: &HostRuntime) -> Result<()> {
+    let challenger = goldilocks_elements_keccak::challenger(rt.alloc());
+    tell::<goldilocks_elements_keccak::Protocol>(
         rt,
-        goldilocks_elements_keccak,
-        goldilocks_elements_keccak::challenger(rt.alloc())
-    );
-    Ok(())
+        Module::GoldilocksElementsKeccak,
+        challenger,
+        &goldilocks_elements_keccak::steps(),
+    )
 }
 
 fn of_permutations(rt: &HostRuntime) -> Result<()> {
-    tell_of!(rt, baby_bear_poseidon2, baby_bear_poseidon2::challenger());
-    tell_of!(rt, goldilocks_poseidon2, goldilocks_poseidon2::challenger());
-    let two_fields = baby_bear_in_goldilocks_poseidon2::challenger()?;
-    tell_of!(rt, baby_bear_in_goldilocks_poseidon2, two_fields);
-    Ok(())
+    of_baby_bear_poseidon2(rt)?;
+    of_goldilocks_poseidon2(rt)?;
+    of_baby_bear_in_goldilocks_poseidon2(rt)
 }
 
-// The digest of the pattern, and the challenges, where no values are sent.
+fn of_baby_bear_poseidon2(rt: &HostRuntime) -> Result<()> {
+    let challenger = baby_bear_poseidon2::challenger();
+    tell::<baby_bear_poseidon2::Protocol>(
+        rt,
+        Module::BabyBearPoseidon2,
+        challenger,
+        &baby_bear_poseidon2::steps(),
+    )
+}
+
+fn of_goldilocks_poseidon2(rt: &HostRuntime) -> Result<()> {
+    let challenger = goldilocks_poseidon2::challenger();
+    let steps = goldilocks_poseidon2::steps(rt.alloc())?;
+    tell::<goldilocks_poseidon2::Protocol>(rt, Module::GoldilocksPoseidon2, challenger, &steps)
+}
+
+fn of_baby_bear_in_goldilocks_poseidon2(rt: &HostRuntime) -> Result<()> {
+    let challenger = baby_bear_in_goldilocks_poseidon2::challenger()?;
+    let steps = baby_bear_in_goldilocks_poseidon2::steps(rt.alloc())?;
+    tell::<baby_bear_in_goldilocks_poseidon2::Protocol>(
+        rt,
+        Module::BabyBearInGoldilocksPoseidon2,
+        challenger,
+        &steps,
+    )
+}
+
+// Prints the name of a module, the digest of the pattern, and the challenges, where no values are sent.
 fn tell<S: Suite>(
-    alloc: Global,
+    rt: &HostRuntime,
+    module: Module,
     challenger: S::Challenger,
-    separator: &DomainSeparator<S::Unit, S::Digest>,
     steps: &[Step<S>],
-) -> Result<String> {
-    let digest = separator.pattern().pattern_hash::<S::Digest>()?;
-    let mut told = hex::encode(alloc, digest)?;
+) -> Result<()> {
+    let alloc = rt.alloc();
+    let separator = module.separator(alloc, steps)?;
+    let mut told = digest_of(alloc, &separator)?;
     let sent = Vec::new(alloc);
-    if let Ok(Ok(proved)) = prove_steps::<S>(alloc, challenger, separator, steps, &sent) {
+    if let Ok(Ok(proved)) = prove_steps::<S>(alloc, challenger, &separator, steps, &sent) {
         write_challenges::<S>(&mut told, &proved.challenges)?;
     }
-    Ok(told)
+    Ok(println!(rt; "{} {told}", module.name())?)
+}
+
+fn digest_of<U: Unit, D: DigestHasher>(
+    alloc: Global,
+    separator: &DomainSeparator<U, D>,
+) -> Result<String> {
+    let digest = separator.pattern().pattern_hash::<D>()?;
+    Ok(hex::encode(alloc, digest)?)
 }
 
 fn write_challenges<S: Suite>(told: &mut String, challenges: &[Drawn<S>]) -> Result<()> {

@@ -92,8 +92,11 @@ pub type Separator = DomainSeparator<{alphabet}, {digest}>;
 
 const SEPARATOR: &str =
     "/// The version and the name of the protocol, the pattern of its steps, and the instance.
-pub fn separator(alloc: Global, steps: &[Step<Protocol>]) -> Result<Separator, TranscriptError> {
-    let pattern = script::pattern::<Protocol>(alloc, steps)?;
+pub fn separator<S: Suite>(
+    alloc: Global,
+    steps: &[Step<S>],
+) -> Result<DomainSeparator<S::Unit, S::Digest>, TranscriptError> {
+    let pattern = script::pattern::<S>(alloc, steps)?;
 ";
 
 fn write_separator(alloc: Global, text: &mut String, file: Entry<'_>) -> Result<()> {
@@ -102,12 +105,12 @@ fn write_separator(alloc: Global, text: &mut String, file: Entry<'_>) -> Result<
     if chunks.is_empty() {
         return Ok(write!(
             text,
-            "{SEPARATOR}    Separator::new(alloc, {version}, {name:?}.as_bytes(), pattern)\n}}\n"
+            "{SEPARATOR}    DomainSeparator::new(alloc, {version}, {name:?}.as_bytes(), pattern)\n}}\n"
         )?);
     }
     writeln!(
         text,
-        "{SEPARATOR}    let mut separator = Separator::new(alloc, {version}, {name:?}.as_bytes(), pattern)?;"
+        "{SEPARATOR}    let mut separator = DomainSeparator::new(alloc, {version}, {name:?}.as_bytes(), pattern)?;"
     )?;
     write_instance(alloc, text, chunks)
 }

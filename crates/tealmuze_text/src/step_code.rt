@@ -51,14 +51,27 @@ pub struct StepWriter {
 }
 
 impl StepWriter {
-    /// Writes the function that makes the steps of a file: a list, or one after another where the table repeats some.
+    /// Writes the function that makes the steps of a file: an array, a list where their values are on the heap, or one after
+    /// another where the table repeats some.
     pub fn write_steps(&self, text: &mut String, file: Entry<'_>) -> Result<()> {
         let steps = file.list("steps")?;
-        if steps.is_empty() || has_repetition(steps)? {
+        if steps.is_empty() || any_has(steps, REPEAT)? {
             self.write_pushed(text, steps)
-        } else {
+        } else if any_has(steps, "values")? {
             self.write_list(text, steps)
+        } else {
+            self.write_array(text, steps)
         }
+    }
+
+    fn write_array(&self, text: &mut String, steps: &[Value]) -> Result<()> {
+        let len = steps.len();
+        write!(
+            text,
+            "/// The steps, in order.\npub fn steps() -> [Step<Protocol>; {len}] {{\n    [\n"
+        )?;
+        self.write_each(text, steps, &LISTED)?;
+        Ok(text.push_str("    ]\n}\n\n")?)
     }
 
     fn write_list(&self, text: &mut String, steps: &[Value]) -> Result<()> {
@@ -218,9 +231,10 @@ fn comma(at: usize) -> &'static str {
     if at == 0 { "" } else { ", " }
 }
 
-fn has_repetition(steps: &[Value]) -> Result<bool> {
+// Whether any of these steps has this key.
+fn any_has(steps: &[Value], key: &'static str) -> Result<bool> {
     for value in steps {
-        if Entry::of(value)?.has(REPEAT) {
+        if Entry::of(value)?.has(key) {
             return Ok(true);
         }
     }
